@@ -1,0 +1,6 @@
+pub mod Basics
+pub mod Formed
+pub mod Sides
+pub mod Forced
+pub mod Strategies
+pub mod Learned

@@ -1,0 +1,4 @@
+pub mod Fronts
+pub mod Rounds
+pub mod Tellings
+pub mod Turns
