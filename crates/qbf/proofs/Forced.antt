@@ -265,7 +265,7 @@ only-is [] l e = cc
 only-is (m ∷ []) l e = cc
 only-is (m ∷ n ∷ C) l e = cc
 
-unit-is : (s : Side) (prefix : List Quantifier) (A C : List ℕ) (l : ℕ) → unit s prefix A C ≡ Some l → IsUnit s prefix A C l
+pub unit-is : (s : Side) (prefix : List Quantifier) (A C : List ℕ) (l : ℕ) → unit s prefix A C ≡ Some l → IsUnit s prefix A C l
 unit-is s prefix A C l u = go (some (λ m. has A (implied s m)) C) refl u
   where
     go : (b : Bool) → some (λ m. has A (implied s m)) C ≡ b → cond b None (only (reduce s prefix (unset A C))) ≡ Some l → IsUnit s prefix A C l
@@ -273,7 +273,7 @@ unit-is s prefix A C l u = go (some (λ m. has A (implied s m)) C) refl u
     go false e q = record { open-yet = e; left = only-is (reduce s prefix (unset A C)) l q }
 
 -- a unit constraint forces its literal
-unit-forces : (s : Side) (prefix : List Quantifier) (A C : List ℕ) (l : ℕ) → ((m : ℕ) → has C m ≡ true → 1 ≤ variable m) → IsUnit s prefix A C l
+pub unit-forces : (s : Side) (prefix : List Quantifier) (A C : List ℕ) (l : ℕ) → ((m : ℕ) → has C m ≡ true → 1 ≤ variable m) → IsUnit s prefix A C l
     → Forces s (quantifierOf prefix) C 1 A l × (has C l ≡ true)
 unit-forces s prefix A C l b u = (record { mine = mine; free = free; next = b l (l-in .0); rest = rest }, l-in .0)
   where

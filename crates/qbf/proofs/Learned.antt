@@ -23,7 +23,7 @@ use Rattle.qbf.proofs.Strategies.{members, reducing-keeps, resolving-keeps, an
 rising-from : (l : ℕ) (C : List ℕ) → ((m : ℕ) → has C m ≡ true → variable l < variable m) → rising C ≡ true → rising (l ∷ C) ≡ true
 rising-from l C h r = and-from (every (λ m. ltb (variable l) (variable m)) C) (rising C) (every-from (λ m. ltb (variable l) (variable m)) C (λ m i. lt-ltb (variable l) (variable m) (h m i))) r
 
-rising-parts : (l : ℕ) (C : List ℕ) → rising (l ∷ C) ≡ true → ((m : ℕ) → has C m ≡ true → variable l < variable m) × (rising C ≡ true)
+pub rising-parts : (l : ℕ) (C : List ℕ) → rising (l ∷ C) ≡ true → ((m : ℕ) → has C m ≡ true → variable l < variable m) × (rising C ≡ true)
 rising-parts l C r =
     let p = and-parts (every (λ m. ltb (variable l) (variable m)) C) (rising C) r in
     (λ m h. ltb-true (variable l) (variable m) (every-in (λ m. ltb (variable l) (variable m)) C m (p .0) h), p .1)
@@ -64,7 +64,7 @@ rising-insert l (m ∷ D) r a = go (rising-insert l D (rising-parts m D r .1) (�
         let n : variable m ≡ variable l → ⊥ = λ e. (eqb-false l m q (sym (a m (has-head m D) e))) in
         rising-from m (insert l D) (λ x h. ⊎-elim (λ e. let zz : variable x ≡ variable l = ap variable e in omega arith) (λ e. past x e) (has-insert-cases l D x h)) ih
 
-has-merge-cases : (C D : List ℕ) (x : ℕ) → has (merge C D) x ≡ true → (has C x ≡ true) ⊎ (has D x ≡ true)
+pub has-merge-cases : (C D : List ℕ) (x : ℕ) → has (merge C D) x ≡ true → (has C x ≡ true) ⊎ (has D x ≡ true)
 has-merge-cases [] D x h = inr h
 has-merge-cases (l ∷ C) D x h =
     ⊎-elim (λ e. inl (or-left (eqb x l) (has C x) (eq-eqb x l e))) (λ e. ⊎-elim (λ q. inl (or-right (eqb x l) (has C x) q)) (λ q. inr q) (has-merge-cases C D x e)) (has-insert-cases l (merge C D) x h)

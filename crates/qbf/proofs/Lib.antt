@@ -1,5 +1,8 @@
 pub mod Basics
 pub mod Formed
+pub mod Places
+pub mod Complements
+pub mod Views
 pub mod Sides
 pub mod Forced
 pub mod Strategies

@@ -4,3 +4,4 @@ pub mod Trees
 pub mod Theory
 pub mod Worked
 pub mod Constraints
+pub mod Views

@@ -3,3 +3,4 @@ pub mod constraint;
 pub mod literal;
 pub mod quantifier;
 pub mod side;
+pub mod view;

@@ -3,7 +3,7 @@ ghost use Prim.Native.Nat.{_≤_};
 ghost use Rattle.qbf.specs.Constraints.{Pushes, codeAt, codesOf, lastVariable};
 ghost use Rattle.qbf.specs.Worked.{Forms};
 ghost use Rattle.std.specs.Vec.{made};
-ghost use lib.ListN.{length};
+ghost use lib.ListN.{length, take};
 ghost use mathlib.Core.List.{[]};
 ghost use mathlib.Core.Path.{_≡_};
 use super::Constraint;
@@ -28,6 +28,13 @@ impl Constraint {
         ensures bound { λ r. ⌜ r ≤ 512 ⌝ }
     {
         self.codes.len()
+    }
+
+    /// The codes.
+    pub(crate) fn as_slice(&self) -> &[u16]
+        ensures { λ r. ⌜ now r ≡ codesOf (now (self .entry)) ⌝ }
+    {
+        self.codes.as_slice()
     }
 
     /// The code at a place, counted from 1; none where there is none.
@@ -72,6 +79,13 @@ impl Constraint {
         ensures { λ _. ⌜ codesOf (now (self .exit)) ≡ [] ⌝ }
     {
         self.codes.clear();
+    }
+
+    /// Keeps the first literals, at most so many.
+    pub fn truncate(&mut self, most: usize)
+        ensures { λ _. ⌜ codesOf (now (self .exit)) ≡ take most (codesOf (now (self .entry))) ⌝ }
+    {
+        self.codes.truncate(most);
     }
 
     /// Becomes a copy of another constraint.

@@ -1,0 +1,5 @@
+pub mod Verdicts
+pub mod Blocks
+pub mod State
+pub mod History
+pub mod Worked

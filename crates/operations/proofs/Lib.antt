@@ -1,0 +1,10 @@
+pub mod Sets
+pub mod Undos
+pub mod ByNumber
+pub mod Trims
+pub mod Units
+pub mod Joined
+pub mod Fronting
+pub mod Passes
+pub mod Looks
+pub mod Earlier

@@ -1,0 +1,4 @@
+pub mod Prefixes
+pub mod States
+pub mod Looks
+pub mod Histories
