@@ -1,4 +1,3 @@
-pub mod Prefixes
 pub mod States
 pub mod Looks
 pub mod Histories

@@ -17,7 +17,7 @@ use Rattle.database.specs.Meaning.{numbered}
 use Rattle.calculus.specs.State.{State, at, constraint, database, fits, isNone, withAdded, step}
 use Rattle.operations.specs.Clashes.{clashOf}
 use Rattle.operations.specs.Trails.{trailOf}
-use Rattle.session.specs.Prefixes.{quantifiersOf}
+use Rattle.prefix.specs.Prefixes.{quantifiersOf}
 use Rattle.session.specs.declared.session.Session.{Session}
 
 abbrev pub stateOf : {C D : Type 0} → (C → Meaning) → (D → Meaning) → Session C D → State

@@ -1,8 +1,8 @@
 //! A session: a prefix, a trail, a working constraint and two databases, at a stage.
-use crate::prefix::Prefix;
 use calculus::stage::Stage;
 use database::database::Database;
 use operations::trail::Trail;
+use prefix::prefix::Prefix;
 use qbf::constraint::Constraint;
 
 pub mod apply;

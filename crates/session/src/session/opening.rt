@@ -4,10 +4,10 @@ ghost use Rattle.session.specs.States.{stateOf};
 ghost use Rattle.std.specs.Results.{Cases};
 ghost use mathlib.Core.Path.{_≡_};
 use super::Session;
-use crate::prefix::Prefix;
 use calculus::stage::Stage;
 use database::database::Database;
 use operations::trail::Trail;
+use prefix::prefix::Prefix;
 use qbf::constraint::Constraint;
 use std::alloc::Global;
 

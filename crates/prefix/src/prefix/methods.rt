@@ -2,7 +2,7 @@
 ghost use Prim.Native.Nat.{_≤_};
 ghost use Rattle.calculus.specs.State.{isNamed};
 ghost use Rattle.qbf.specs.Qbf.{quantifierOf as theQuantifier};
-ghost use Rattle.session.specs.Prefixes.{Names, quantifiersOf};
+ghost use Rattle.prefix.specs.Prefixes.{Names, quantifiersOf};
 ghost use Rattle.std.specs.Vec.{made};
 ghost use lib.ListN.{length};
 ghost use mathlib.Core.List.{[]};

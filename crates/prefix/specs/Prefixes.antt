@@ -6,7 +6,7 @@ use lib.Dec.{leb}
 use lib.ListN.{length}
 use Rattle.std.specs.Of.Vec.{vec-items}
 use Rattle.qbf.specs.declared.quantifier.Quantifier.{Quantifier}
-use Rattle.session.specs.declared.prefix.Prefix.{Prefix}
+use Rattle.prefix.specs.declared.prefix.Prefix.{Prefix}
 
 abbrev pub quantifiersOf : Prefix → List Quantifier
 quantifiersOf p = vec-items (p .quantifiers)

@@ -4,8 +4,8 @@ use lib.ListN.{length}
 use native.Mathlib.Omega.{arith}
 use Rattle.qbf.specs.declared.quantifier.Quantifier.the-variants.{Existential}
 use Rattle.std.proofs.shelf.Lists.{getD-past}
-use Rattle.session.specs.Prefixes.{quantifiersOf}
-use Rattle.session.proofs.prefix.Prefix.quantifier.Needs as need
+use Rattle.prefix.specs.Prefixes.{quantifiersOf}
+use Rattle.prefix.proofs.prefix.Prefix.quantifier.Needs as need
 
 pub returns-else-index-len : need.returns-else-index-len
 returns-else-index-len c =

@@ -1,0 +1,2 @@
+//! The prefix: the quantifiers of the named variables.
+pub mod prefix;
