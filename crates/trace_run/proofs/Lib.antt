@@ -1,0 +1,9 @@
+pub mod Checking
+pub mod Closing
+pub mod Encoded
+pub mod Lasting
+pub mod Sayings
+pub mod Spelling
+pub mod Stopping
+pub mod Turns
+pub mod Verdicts
