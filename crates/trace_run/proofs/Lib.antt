@@ -3,6 +3,7 @@ pub mod Closing
 pub mod Encoded
 pub mod Lasting
 pub mod Sayings
+pub mod Shutting
 pub mod Spelling
 pub mod Stopping
 pub mod Turns

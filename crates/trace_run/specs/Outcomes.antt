@@ -18,7 +18,9 @@ use Rattle.calculus.specs.declared.call.Call.{Call}
 use Rattle.calculus.specs.declared.call.Call.the-variants.{Close}
 use Rattle.calculus.specs.declared.verdict.Verdict.{Verdict}
 use Rattle.calculus.specs.State.{State, opening, step}
-use Rattle.calculus.specs.History.{Event, Happens, takenCalls, isTaken, verdictAt, Sound}
+use Rattle.qbf.specs.Qbf.{value}
+use Rattle.calculus.specs.Verdicts.{sideOf, valueOf}
+use Rattle.calculus.specs.History.{Event, Happens, takenCalls, isTaken, verdictAt, told, loadedOf, Sound}
 use Rattle.trace_run.specs.Calls.{Spells}
 use Rattle.trace_run.specs.Runs.{ran}
 
@@ -87,3 +89,6 @@ pub record Checks (M N : Meaning) (bs : List ℕ) (answer : Result Verdict Fault
   pub says : Says (opening M N) bs answer
   pub happens : Happens M N (ran (opening M N) bs .events) (ran (opening M N) bs .state)
   pub sound : Sound (takenCalls (ran (opening M N) bs .events))
+  -- a verdict is the value of the table that its side loaded, with no literal set
+  pub verdict : (v : Verdict) → answer ≡ Ok v
+      → value (sideOf v) (told (takenCalls (ran (opening M N) bs .events)) .prefix) (loadedOf (sideOf v) (takenCalls (ran (opening M N) bs .events))) [] ≡ valueOf v
