@@ -1,4 +1,9 @@
 //! Checks a trace that is read from the standard input, and prints its verdict, or the fault that its run stopped at.
+ghost use Rattle.calculus.specs.State.{opening};
+ghost use Rattle.database.specs.Complemented.{complementedMeaning};
+ghost use Rattle.std.specs.Results.{Cases};
+ghost use Rattle.trace_run.specs.Runs.{ran};
+ghost use mathlib.Core.Path.{_≡_};
 use bitset_database::bitset::BitsetDatabase;
 use bitset_database::bitset::database::BitsetIsDatabase;
 use calculus::verdict::Verdict;
@@ -23,7 +28,9 @@ fn answer_over<C: Database + Drop, D: Database + Drop>(
     clauses: C,
     cubes: D,
     trace: &[u8],
-) -> Result<Result<Verdict, Fault>, AllocError> {
+) -> Result<Result<Verdict, Fault>, AllocError>
+    ensures { λ r. ⌜ Cases r (λ a. a ≡ ran (opening (C·Database .meaning clauses) (complementedMeaning (D·Database .meaning cubes))) (now (trace .entry)) .answer) (λ _. Unit {0}) ⌝ }
+{
     match check(heap, clauses, ComplementedDatabase::new(cubes), trace) {
         Ok(checked) => Ok(checked.answer),
         Err(_) => Err(AllocError),

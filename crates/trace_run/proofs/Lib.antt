@@ -1,6 +1,5 @@
 pub mod Checking
 pub mod Closing
-pub mod Encoded
 pub mod Lasting
 pub mod Sayings
 pub mod Shutting

@@ -13,7 +13,7 @@ use Rattle.std.specs.declared.result.Result.{Result}
 use Rattle.std.specs.declared.result.Result.the-variants.{Ok, Err}
 use Rattle.faults.specs.declared.fault.Fault.{Fault}
 use Rattle.faults.specs.declared.refusal.Refusal.{Refusal}
-use Rattle.trace.specs.Format.{Front, bodyLength, decode}
+use Rattle.trace.specs.Format.{Front, bodyLength}
 use Rattle.trace.specs.Reading.{Item, spelled, notListed, tooShort, faultAt}
 use Rattle.trace.proofs.Fronts.{Seen, none, fits, unlisted, short, seen}
 use Rattle.calculus.specs.declared.answer.Answer.{Answer}

@@ -2,7 +2,7 @@
 use mathlib.Core.Path.{_≡_, refl, sym, ap, _∙_}
 use mathlib.Core.Bool.{Bool, true, false, cond}
 use mathlib.Core.List.{List, [], _∷_, _++_}
-use Prim.Native.Nat.{ℕ, zero, suc}
+use Prim.Native.Nat.{ℕ}
 use native.Mathlib.Omega.{arith}
 use lib.Dec.{eqb}
 use lib.ListN.{length}
@@ -10,7 +10,7 @@ use Rattle.std.specs.Options.{mapped}
 use Rattle.std.specs.declared.option.Option.{Option}
 use Rattle.std.specs.declared.option.Option.the-variants.{Some, None}
 use Rattle.calculus.specs.declared.call.Call.{Call}
-use Rattle.trace.specs.Format.{Front, whole, Row, table, find, rowOf, total, bodyLength, longer, takeBody, afterKind, decode}
+use Rattle.trace.specs.Format.{whole, Row, table, find, rowOf, total, bodyLength, longer, takeBody, afterKind, decode}
 use Rattle.trace_run.specs.Calls.{callTable, firstOf, secondOf, madeBy, bodyNumbers, callOf}
 
 pub some-no : {X : Type 0} (x : X) → Some x ≡ None → ⊥

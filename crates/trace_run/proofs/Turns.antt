@@ -8,13 +8,12 @@ use lib.ListN.{length, take, drop, length-drop}
 use lib.Seq.{drop-drop, length-take-le}
 use Rattle.std.specs.declared.option.Option.{Option}
 use Rattle.std.specs.declared.option.Option.the-variants.{Some, None}
-use Rattle.std.specs.declared.result.Result.{Result}
 use Rattle.std.specs.declared.result.Result.the-variants.{Err}
 use Rattle.faults.specs.declared.fault.Fault.{Fault}
 use Rattle.faults.specs.declared.refusal.Refusal.{Refusal}
 use Rattle.trace.specs.declared.reader.Reader.{Reader}
 use Rattle.trace.specs.declared.record.Record.{Record}
-use Rattle.trace.specs.Format.{Front, end, whole, unknownKind, cutBody, decode}
+use Rattle.trace.specs.Format.{Front, end, whole, unknownKind, cutBody}
 use Rattle.trace.specs.Reading.{Item, faultAt}
 use Rattle.trace.specs.Readers.{Next, traceOf, ahead, given, bytesTaken, recordsTaken, faultOf}
 use Rattle.trace.specs.Records.{parts, kindOf, bodyOf}
@@ -26,7 +25,7 @@ use Rattle.calculus.specs.declared.call.Call.{Call}
 use Rattle.calculus.specs.State.{State, step}
 use Rattle.calculus.specs.History.{Event}
 use Rattle.trace_run.specs.Calls.{callOf}
-use Rattle.trace_run.specs.Runs.{Ran, stops, atEnd, ended, goesOn, makes, runFront, runFrom}
+use Rattle.trace_run.specs.Runs.{Ran, stops, ended, goesOn, makes, runFront, runFrom}
 use Rattle.trace_run.proofs.Spelling.{some-no}
 
 -- Two runs that agree on fewer bytes agree on these.

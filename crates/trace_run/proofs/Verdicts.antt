@@ -6,7 +6,7 @@ use Prim.Native.Nat.{ℕ, zero, suc, _+_, _<_}
 use native.Mathlib.Omega.{arith}
 use lib.ListN.{length, length-append}
 use Rattle.std.proofs.shelf.Tests.{both-ways}
-use Rattle.std.specs.declared.option.Option.the-variants.{Some, None}
+use Rattle.std.specs.declared.option.Option.the-variants.{Some}
 use Rattle.std.specs.declared.result.Result.the-variants.{Ok}
 use Rattle.trace.specs.Reading.{Item, spelled}
 use Rattle.calculus.specs.declared.answer.Answer.{Answer}
@@ -18,9 +18,8 @@ use Rattle.calculus.specs.declared.stage.Stage.the-variants.{Naming, Loading, W
 use Rattle.calculus.specs.declared.verdict.Verdict.{Verdict}
 use Rattle.calculus.specs.State.{State, step}
 use Rattle.calculus.specs.History.{Event, isTaken, verdictAt}
-use Rattle.trace_run.specs.Calls.{Spells}
 use Rattle.trace_run.specs.Runs.{Ran, atEnd, goesOn, makes, runFront, runFrom, ran}
-use Rattle.trace_run.specs.Outcomes.{AllSpell, AllTaken, after, Closes, OnlyThose}
+use Rattle.trace_run.specs.Outcomes.{AllSpell, AllTaken, after, OnlyThose}
 use Rattle.trace_run.proofs.Closing.{closed}
 use Rattle.trace_run.proofs.Spelling.{some-no, at-front}
 use Rattle.trace_run.proofs.Stopping.{stops-answer}
