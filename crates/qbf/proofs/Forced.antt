@@ -1,14 +1,14 @@
 -- A unit constraint forces its literal. Assumes nothing.
-use Rattle.std.proofs.Common.{◌≡◌, ℕ, zero, suc, pred, ◌+◌, ◌-◌, ◌*◌, ◌/◌, ◌%◌, ◌<◌, ◌≤◌, Bool, true, false, cond, not, ◌&&◌, ◌||◌, eqb, ltb, leb, ◌⊎◌, List, [], ◌∷◌, ◌++◌, map, length, get_or, Some, None, filter, sym, refl, ap, ◌∙◌, subst, ap₂, inl, inr, ⊎_elim, add-zero, add-suc, zero-add, arith}
-use Rattle.std.proofs.lemmas.Bool.{and_parts, and_from, or_cases, or_left, or_right, or_parts, or_from, cases_Bool, both_ways, eq-eqb, eqb-true, eqb-false, ne_eqb, cond-true, cond-false, ltb-true, cases_eq, leb-true, le-leb, not-true, not_from_false, cases_lt}
+use Rattle.std.proofs.Common.{◌≡◌, ℕ, suc, ◌+◌, ◌<◌, ◌≤◌, Bool, true, false, cond, not, ◌&&◌, ◌||◌, eqb, leb, ◌⊎◌, List, [], ◌∷◌, length, get_or, Some, None, sym, refl, ap, ◌∙◌, subst, ap₂, inl, inr, ⊎_elim, add-zero, zero-add, arith}
+use Rattle.std.proofs.lemmas.Bool.{and_parts, and_from, or_cases, or_left, or_right, cases_Bool, both_ways, eqb-true, cond-true, cond-false, cases_eq, le-leb, not-true, not_from_false, cases_lt}
 use Rattle.qbf.specs.declared.quantifier.Quantifier.{Quantifier}
-use Rattle.qbf.specs.declared.quantifier.Quantifier.TheVariants.{Existential, Universal}
+use Rattle.qbf.specs.declared.quantifier.Quantifier.TheVariants.{Existential}
 use Rattle.qbf.specs.declared.side.Side.{Side}
 use Rattle.qbf.specs.declared.side.Side.TheVariants.{Clause, Cube}
-use Rattle.qbf.specs.Qbf.{variable, complement, setting, quantifier_of, has, every, some, In, is_set, own, Consistent, Named, rising, against, value, losing, own_from, reduce, unset, only, unit, implied}
+use Rattle.qbf.specs.Qbf.{variable, complement, setting, quantifier_of, has, some, In, is_set, own, rising, against, losing, own_from, reduce, unset, only, unit, implied}
 use Rattle.qbf.specs.Trees.{breaks}
 use Rattle.qbf.specs.Theory.{Forcing}
-use Rattle.qbf.proofs.Basics.{set_has, has_set, has_head, has_tail, set_new, set_other, has_other, setting_variable, twice, complement_variable, against_variable, some_in, none_in, none_from, every_in, every_from, some_which, some_has, has_keep, keep_has, which, apart, implied_is, implied_variable, implied_back}
+use Rattle.qbf.proofs.Basics.{set_has, has_head, has_tail, set_new, set_other, setting_variable, complement_variable, against_variable, some_in, every_from, some_which, some_has, has_keep, keep_has, which, apart, implied_is, implied_variable, implied_back}
 use Rattle.qbf.proofs.Sides.{both_or_one, broken, is_lost, seen, value_seen, clear_more}
 
 -- K gives the quantifiers listed to the variables from v upward

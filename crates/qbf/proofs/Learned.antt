@@ -1,14 +1,12 @@
 -- What reducing and resolving make is rising, named and entailed. Assumes nothing.
-use Rattle.std.proofs.Common.{◌≡◌, ℕ, zero, suc, pred, ◌+◌, ◌-◌, ◌*◌, ◌/◌, ◌%◌, ◌<◌, ◌≤◌, Bool, true, false, cond, not, ◌&&◌, ◌||◌, eqb, ltb, leb, ◌⊎◌, ◌↔◌, List, [], ◌∷◌, ◌++◌, map, length, get_or, filter, sym, refl, ap, ◌∙◌, subst, ap₂, inl, inr, ⊎_elim, arith}
-use Rattle.std.proofs.lemmas.Bool.{and_parts, and_from, and_cases, or_cases, or_left, or_right, or_parts, or_from, cases_Bool, both_ways, eq-eqb, eqb-true, eqb-false, ne_eqb, cond-true, cond-false, ltb-true, ltb-false, lt-ltb, cases_eq, leb-true, le-leb, lt-leb, not-true, not_from_false, cases_lt, and_left, and_right}
+use Rattle.std.proofs.Common.{◌≡◌, ℕ, ◌<◌, ◌≤◌, Bool, true, false, cond, not, eqb, ltb, ◌⊎◌, List, [], ◌∷◌, length, filter, sym, refl, ap, subst, inl, inr, ⊎_elim, arith}
+use Rattle.std.proofs.lemmas.Bool.{and_parts, and_from, or_cases, or_left, or_right, eq-eqb, eqb-true, eqb-false, ltb-true, ltb-false, lt-ltb, cases_eq, not-true}
 use Rattle.qbf.specs.declared.quantifier.Quantifier.{Quantifier}
-use Rattle.qbf.specs.declared.quantifier.Quantifier.TheVariants.{Existential, Universal}
 use Rattle.qbf.specs.declared.side.Side.{Side}
-use Rattle.qbf.specs.declared.side.Side.TheVariants.{Clause, Cube}
-use Rattle.qbf.specs.Qbf.{variable, complement, quantifier_of, has, every, In, own, Named, rising, own_from, insert, merge, without}
+use Rattle.qbf.specs.Qbf.{variable, complement, has, every, In, Named, rising, own_from, insert, merge, without}
 use Rattle.qbf.specs.Trees.{Entails, Derived, stated, reducing, resolving}
 use Rattle.qbf.specs.Theory.{Learning}
-use Rattle.qbf.proofs.Basics.{has_head, has_tail, twice, complement_variable, every_in, every_from, some_which, some_has, has_keep, keep_has, which, apart}
+use Rattle.qbf.proofs.Basics.{has_head, has_tail, every_in, every_from, keep_has}
 use Rattle.qbf.proofs.Strategies.{members, reducing_keeps, resolving_keeps, any_choice, empty_loses}
 
 -- what is derived is rising, named and entailed

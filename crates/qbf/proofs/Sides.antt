@@ -1,15 +1,15 @@
 -- The value of a table is whether it is lost, seen from its side; and the law of the sides. Assumes nothing.
-use Rattle.std.proofs.Common.{◌≡◌, ℕ, zero, suc, pred, ◌+◌, ◌-◌, ◌*◌, ◌/◌, ◌%◌, ◌<◌, ◌≤◌, Bool, true, false, cond, not, ◌&&◌, ◌||◌, eqb, ltb, leb, ◌⊎◌, List, [], ◌∷◌, ◌++◌, map, length, get_or, sym, refl, ap, ◌∙◌, subst, ap₂, inl, inr, ⊎_elim, add-zero, add-suc, arith}
+use Rattle.std.proofs.Common.{◌≡◌, ℕ, suc, ◌+◌, ◌<◌, ◌≤◌, Bool, true, false, cond, not, ◌&&◌, ◌||◌, eqb, ◌⊎◌, List, [], ◌∷◌, map, length, sym, refl, ap, ◌∙◌, subst, ap₂, inl, inr, ⊎_elim, arith}
 use lib.ListN.{length-map}
-use Rattle.std.proofs.lemmas.Bool.{and_parts, and_from, or_cases, or_left, or_right, or_parts, or_from, cases_Bool, both_ways, eq-eqb, eqb-true, eqb-false, ne_eqb, cond-true, cond-false, ltb-true, cases_eq}
+use Rattle.std.proofs.lemmas.Bool.{or_cases, or_left, or_right, both_ways, eq-eqb, eqb-true, cases_eq}
 use Rattle.qbf.specs.declared.quantifier.Quantifier.{Quantifier}
 use Rattle.qbf.specs.declared.quantifier.Quantifier.TheVariants.{Existential, Universal}
 use Rattle.qbf.specs.declared.side.Side.{Side}
 use Rattle.qbf.specs.declared.side.Side.TheVariants.{Clause, Cube}
-use Rattle.qbf.specs.Qbf.{variable, complement, setting, has, every, some, In, is_set, own, Consistent, Named, against, one_or_both, holds, table_holds, value_from, value, opposite_side, opposite_quantifier, complemented}
+use Rattle.qbf.specs.Qbf.{variable, complement, setting, has, some, In, is_set, own, Consistent, Named, against, one_or_both, holds, table_holds, value_from, value, opposite_side, opposite_quantifier, complemented}
 use Rattle.qbf.specs.Trees.{breaks}
 use Rattle.qbf.specs.Theory.{LawOfSides}
-use Rattle.qbf.proofs.Basics.{set_has, has_set, has_head, set_new, set_other, has_other, setting_variable, twice, complement_variable, some_in, none_in, none_from, every_in}
+use Rattle.qbf.proofs.Basics.{set_has, has_set, has_head, set_new, set_other, setting_variable, twice, complement_variable}
 
 -- One recursion for all that goes through the prefix: `join` says what the answers at the two settings make, `end` how it ended.
 abbrev pub play : (Quantifier → Bool → Bool → Bool) → (List ℕ → Bool) → ℕ → List Quantifier → List ℕ → Bool

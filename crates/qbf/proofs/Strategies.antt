@@ -1,16 +1,15 @@
 -- Strategies of the own player, and what they entail.
-use Rattle.std.proofs.Common.{◌≡◌, ℕ, zero, suc, pred, ◌+◌, ◌-◌, ◌*◌, ◌/◌, ◌%◌, ◌<◌, ◌≤◌, Bool, true, false, cond, not, ◌&&◌, ◌||◌, eqb, ltb, leb, ◌⊎◌, ◌↔◌, List, [], ◌∷◌, ◌++◌, map, length, get_or, filter, sym, refl, ap, ◌∙◌, subst, ap₂, inl, inr, ⊎_elim, add-zero, add-suc, zero-add, arith}
-use Rattle.std.proofs.lemmas.Bool.{and_parts, and_from, and_cases, or_cases, or_left, or_right, or_parts, or_from, cases_Bool, both_ways, eq-eqb, eqb-true, eqb-false, ne_eqb, cond-true, cond-false, ltb-true, cases_eq, leb-true, le-leb, not-true, not_from_false, cases_lt, and_left, and_right}
+use Rattle.std.proofs.Common.{◌≡◌, ℕ, suc, ◌+◌, ◌<◌, ◌≤◌, Bool, true, false, cond, not, ◌&&◌, ◌||◌, eqb, ltb, leb, ◌⊎◌, ◌↔◌, List, [], ◌∷◌, ◌++◌, length, sym, refl, ap, ◌∙◌, subst, inl, inr, ⊎_elim, arith}
+use Rattle.std.proofs.lemmas.Bool.{and_parts, and_from, and_cases, or_cases, or_left, or_right, or_parts, or_from, cases_Bool, both_ways, eqb-true, ne_eqb, cond-true, cond-false, cases_eq, leb-true, le-leb, not_from_false, cases_lt, and_left, and_right}
 use Rattle.qbf.specs.declared.quantifier.Quantifier.{Quantifier}
-use Rattle.qbf.specs.declared.quantifier.Quantifier.TheVariants.{Existential, Universal}
 use Rattle.qbf.specs.declared.side.Side.{Side}
 use Rattle.qbf.specs.declared.side.Side.TheVariants.{Clause, Cube}
-use Rattle.qbf.specs.Qbf.{variable, complement, setting, quantifier_of, has, every, some, In, is_set, own, Consistent, Named, rising, against, value, losing, own_from, reduce, insert, merge, without, resolve}
-use Rattle.qbf.specs.Trees.{breaks, Tree, done, mine, theirs, Leaves, Unbroken, Entails}
+use Rattle.qbf.specs.Qbf.{variable, complement, setting, quantifier_of, has, some, In, is_set, own, Consistent, Named, rising, against, losing, own_from, reduce, insert, merge, without, resolve}
+use Rattle.qbf.specs.Trees.{breaks, Tree, done, mine, theirs, Leaves}
 use Rattle.qbf.specs.Theory.{Strategies, Members, Reducing, Resolving, AnyChoice, EmptyLoses}
-use Rattle.qbf.proofs.Basics.{set_has, has_set, has_head, has_tail, set_new, set_other, has_other, setting_variable, twice, complement_variable, against_variable, some_in, none_in, none_from, every_in, every_from, some_which, some_has, has_keep, keep_has, which, apart}
+use Rattle.qbf.proofs.Basics.{set_has, has_head, has_tail, set_other, has_other, setting_variable, complement_variable, against_variable, none_in, every_in, every_from, some_which, some_has, has_keep, keep_has, apart}
 use Rattle.qbf.proofs.Sides.{both_or_one, broken, is_lost, seen, value_seen, Sound, sound_more}
-use Rattle.qbf.proofs.Forced.{Kinds, prefix_kinds, Free, Against, against_step, worst, worst_is}
+use Rattle.qbf.proofs.Forced.{Kinds, prefix_kinds, Against, against_step, worst, worst_is}
 
 -- nothing from v upward is set
 abbrev Fresh : ℕ → List ℕ → Type 0

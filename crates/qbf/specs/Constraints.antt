@@ -1,5 +1,5 @@
 -- What the methods of a constraint do to its list of codes. Assumes nothing.
-use Rattle.std.specs.Prelude.{◌≡◌, ℕ, ◌-◌, true, false, cond, ◌&&◌, List, [], ◌∷◌, ◌++◌, length, is_ok, Some, None, Ok, Err, vec_items, Option, Result, nat_le, nat_lt, slice_index}
+use Rattle.std.specs.Prelude.{◌≡◌, ℕ, ◌-◌, false, cond, ◌&&◌, List, [], ◌∷◌, ◌++◌, length, is_ok, Some, None, Ok, Err, vec_items, Option, Result, nat_le, nat_lt, slice_index}
 use Rattle.qbf.specs.declared.constraint.Constraint.{Constraint}
 use Rattle.qbf.specs.declared.constraint.NotPushed.{NotPushed}
 use Rattle.qbf.specs.declared.constraint.NotPushed.TheVariants.{NoCode, NotAbove}

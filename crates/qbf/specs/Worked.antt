@@ -3,7 +3,7 @@ use Rattle.std.specs.Prelude.{◌≡◌, ℕ, true, false, List, [], ◌∷◌, 
 use Rattle.qbf.specs.declared.quantifier.Quantifier.{Quantifier}
 use Rattle.qbf.specs.declared.quantifier.Quantifier.TheVariants.{Existential, Universal}
 use Rattle.qbf.specs.declared.side.Side.TheVariants.{Clause, Cube}
-use Rattle.qbf.specs.Qbf.{complement, rising, formed, value, opposite_quantifier, complemented, reduce, unit, resolve}
+use Rattle.qbf.specs.Qbf.{formed, value, opposite_quantifier, complemented, reduce, unit, resolve}
 
 -- M has variable 1 existential and 2 universal, N the quantifiers exchanged; the tables are the same.
 abbrev pub prefix_m : List Quantifier

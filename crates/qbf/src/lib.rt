@@ -1,4 +1,6 @@
 //! Quantified Boolean formulas: quantifiers, the two sides, literal codes and constraints, and the theory of their tables.
+#![tactic(auto)]
+
 pub mod constraint;
 pub mod literal;
 pub mod quantifier;

@@ -1,4 +1,4 @@
-use Rattle.std.proofs.Common.{◌≡◌, suc, ◌-◌, length, vec_items, sym, ap, ◌∙◌, arith}
+use Rattle.std.proofs.Common.{◌-◌, vec_items, ap, ◌∙◌, arith}
 use Rattle.qbf.specs.Qbf.{variable}
 use Rattle.qbf.proofs.Formed.{last_none, last_place}
 use Rattle.qbf.proofs.constraint.Constraint.last_variable.Goals as goal

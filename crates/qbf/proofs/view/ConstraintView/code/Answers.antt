@@ -1,5 +1,4 @@
 use Rattle.std.proofs.Common.{◌-◌, Some, sym, ap, ◌∙◌, inl, inr, arith}
-use Rattle.qbf.specs.Qbf.{complement}
 use Rattle.qbf.specs.Views.{viewed}
 use Rattle.qbf.proofs.Places.{code_none, code_there}
 use Rattle.qbf.proofs.Views.{length_shown, shown_complemented, shown_plain}
