@@ -1,3 +1,5 @@
 //! Constraint databases: what one means, and the layer that shows another with every code complemented.
+#![tactic(auto)]
+
 pub mod complemented;
 pub mod database;
