@@ -1,2 +1,4 @@
 //! The prefix: the quantifiers of the named variables.
+#![tactic(auto)]
+
 pub mod prefix;

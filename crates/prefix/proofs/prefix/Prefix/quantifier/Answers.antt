@@ -1,4 +1,4 @@
-use Rattle.std.proofs.Common.{◌≡◌, pred, ◌≤◌, length, sym, arith}
+use Rattle.std.proofs.Common.{pred, ◌≤◌, length, sym, arith}
 use Rattle.qbf.specs.declared.quantifier.Quantifier.TheVariants.{Existential}
 use Rattle.std.proofs.lemmas.List.{get_or_past}
 use Rattle.prefix.specs.Prefixes.{quantifiers_of}
