@@ -1,4 +1,6 @@
 //! The operations of the calculus in code: the trail, units, resolving, reducing, blocks, and constraints by number. Each is one text for both sides.
+#![tactic(auto)]
+
 pub mod blocks;
 pub mod entry;
 pub mod numbered;

@@ -7,7 +7,7 @@ use Rattle.calculus.specs.State.{literals}
 use Rattle.operations.specs.Trails.{trail_of}
 use Rattle.operations.proofs.Earlier.{begun, found, same_block, was_set}
 use Rattle.operations.proofs.blocks.earlier_unset.Goals as goal
-use Rattle.operations.proofs.blocks.earlier_unset.Goals.{then-variable-prefix, else-variable-prefix, then-begins-block, else-begins-block, else-earlier-via-then-earlier+else-not-is-set, else-earlier-via-else-earlier}
+use Rattle.operations.proofs.blocks.earlier_unset.Goals.{then-variable-prefix, else-variable-prefix, then-begins_block, else-begins_block, else-earlier-via-then-earlier+else-not-is_set, else-earlier-via-else-earlier}
 
 pub variables-init : goal.variables-init
 variables-init c =
@@ -17,31 +17,31 @@ variables-init c =
       | else-variable-prefix w ↦ begun c.args.prefix.now A c.args.variable c.if-variable-prefix.next (omega (arith, w.next-is)) (inr (w.next-is, omega arith))
     ]
 
-pub returns-then-not-is-set : goal.returns-then-not-is-set
-returns-then-not-is-set c =
+pub returns-then-not-is_set : goal.returns-then-not-is_set
+returns-then-not-is_set c =
     let P = c.args.prefix.now in
     let A = literals (trail_of c.args.trail.now) in
-    let d = c.begins-block.result in
-    let e : d ≡ differ (quantifier_of P (c.variables.next - 1)) (quantifier_of P c.variables.next) = c.begins-block.ensures.value ∙ ap₂ differ c.quantifier-of.ensures c.quantifier-of-here.ensures in
-    let t : c.if-begins-block.earlier ≡ cond d true c.variables.earlier =
-    elim c.if-begins-block.branch [
-      | then-begins-block w ↦ w.earlier-is ∙ sym (cond-true d true c.variables.earlier w.if-begins-block.true)
-      | else-begins-block w ↦ w.earlier-is ∙ sym (cond-false d true c.variables.earlier w.if-begins-block.false)
+    let d = c.begins_block.result in
+    let e : d ≡ differ (quantifier_of P (c.variables.next - 1)) (quantifier_of P c.variables.next) = c.begins_block.ensures.value ∙ ap₂ differ c.quantifier_of.ensures c.quantifier_of-here.ensures in
+    let t : c.if-begins_block.earlier ≡ cond d true c.variables.earlier =
+    elim c.if-begins_block.branch [
+      | then-begins_block w ↦ w.earlier-is ∙ sym (cond-true d true c.variables.earlier w.if-begins_block.true)
+      | else-begins_block w ↦ w.earlier-is ∙ sym (cond-false d true c.variables.earlier w.if-begins_block.false)
     ] in
-    found P A c.args.variable c.variables.next (c.variables.next - 1) c.variables.earlier d (omega arith) refl e c.variables.invariant c.if-begins-block.earlier t c.if-earlier.true c.if-not-is-set.ensures
+    found P A c.args.variable c.variables.next (c.variables.next - 1) c.variables.earlier d (omega arith) refl e c.variables.invariant c.if-begins_block.earlier t c.if-earlier.true c.if-not-is_set.ensures
 
 pub variables-preserved : goal.variables-preserved
 variables-preserved c =
     let P = c.args.prefix.now in
     let A = literals (trail_of c.args.trail.now) in
-    let d = c.begins-block.result in
-    let e : d ≡ differ (quantifier_of P (c.variables.next - 1)) (quantifier_of P c.variables.next) = c.begins-block.ensures.value ∙ ap₂ differ c.quantifier-of.ensures c.quantifier-of-here.ensures in
-    let t : c.if-begins-block.earlier ≡ cond d true c.variables.earlier =
-    elim c.if-begins-block.branch [
-      | then-begins-block w ↦ w.earlier-is ∙ sym (cond-true d true c.variables.earlier w.if-begins-block.true)
-      | else-begins-block w ↦ w.earlier-is ∙ sym (cond-false d true c.variables.earlier w.if-begins-block.false)
+    let d = c.begins_block.result in
+    let e : d ≡ differ (quantifier_of P (c.variables.next - 1)) (quantifier_of P c.variables.next) = c.begins_block.ensures.value ∙ ap₂ differ c.quantifier_of.ensures c.quantifier_of-here.ensures in
+    let t : c.if-begins_block.earlier ≡ cond d true c.variables.earlier =
+    elim c.if-begins_block.branch [
+      | then-begins_block w ↦ w.earlier-is ∙ sym (cond-true d true c.variables.earlier w.if-begins_block.true)
+      | else-begins_block w ↦ w.earlier-is ∙ sym (cond-false d true c.variables.earlier w.if-begins_block.false)
     ] in
     elim c.else-earlier.branch [
-      | else-earlier-via-then-earlier+else-not-is-set w ↦ was_set P A c.args.variable c.variables.next (c.variables.next - 1) c.variables.earlier d (omega arith) refl e c.variables.invariant c.if-begins-block.earlier t w.if-not-is-set.ensures
-      | else-earlier-via-else-earlier w ↦ same_block P A c.args.variable c.variables.next (c.variables.next - 1) c.variables.earlier d (omega arith) refl e c.variables.invariant c.if-begins-block.earlier t w.if-earlier.false
+      | else-earlier-via-then-earlier+else-not-is_set w ↦ was_set P A c.args.variable c.variables.next (c.variables.next - 1) c.variables.earlier d (omega arith) refl e c.variables.invariant c.if-begins_block.earlier t w.if-not-is_set.ensures
+      | else-earlier-via-else-earlier w ↦ same_block P A c.args.variable c.variables.next (c.variables.next - 1) c.variables.earlier d (omega arith) refl e c.variables.invariant c.if-begins_block.earlier t w.if-earlier.false
     ]

@@ -6,11 +6,11 @@ use Rattle.calculus.specs.State.{constraint}
 use Rattle.operations.proofs.ByNumber.{sized, follows_here, copied_here}
 use Rattle.operations.proofs.numbered.fetch.Goals as goal
 
-pub unreachable-requires-in-default-push : goal.unreachable-requires-in-default-push
-unreachable-requires-in-default-push g c =
+pub unreachable-requires-in_default-push : goal.unreachable-requires-in_default-push
+unreachable-requires-in_default-push g c =
     let T : List (List ℕ) = (g.D.Database.meaning c.args.database.now).list in
     let m = follows_here T c.args.number c.places.place c.in-Some-code.code (codes_of c.places.into) (g.D.Database.lawful c.args.database.now).formed c.places.invariant c.in-Some-code.ensures in
-    c.in-default-push.not-Ok tt (c.push.ensures.answers ∙ m)
+    c.in_default-push.not-Ok tt (c.push.ensures.answers ∙ m)
 
 pub places-preserved : goal.places-preserved
 places-preserved g c =

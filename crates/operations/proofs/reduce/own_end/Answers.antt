@@ -9,10 +9,10 @@ places-init c = begun c.args.side c.args.prefix.now (codes_of c.args.working.now
 
 pub returns-then-owns : goal.returns-then-owns
 returns-then-owns c =
-    stopped c.args.side c.args.prefix.now (codes_of c.args.working.now) c.places.left (omega arith) c.places.invariant c.in-Some.code c.variable.result c.quantifier-of.result
-    c.in-Some.ensures c.variable.ensures c.quantifier-of.ensures c.if-owns.ensures.value
+    stopped c.args.side c.args.prefix.now (codes_of c.args.working.now) c.places.left (omega arith) c.places.invariant c.in-Some.code c.variable.result c.quantifier_of.result
+    c.in-Some.ensures c.variable.ensures c.quantifier_of.ensures c.if-owns.ensures.value
 
 pub places-preserved : goal.places-preserved
 places-preserved c =
-    passed c.args.side c.args.prefix.now (codes_of c.args.working.now) c.places.left (omega arith) c.places.invariant c.in-Some.code c.variable.result c.quantifier-of.result
-    c.in-Some.ensures c.variable.ensures c.quantifier-of.ensures c.if-owns.ensures.value
+    passed c.args.side c.args.prefix.now (codes_of c.args.working.now) c.places.left (omega arith) c.places.invariant c.in-Some.code c.variable.result c.quantifier_of.result
+    c.in-Some.ensures c.variable.ensures c.quantifier_of.ensures c.if-owns.ensures.value

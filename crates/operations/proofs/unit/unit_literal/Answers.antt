@@ -7,7 +7,7 @@ use Rattle.operations.specs.Trails.{trail_of}
 use Rattle.operations.proofs.Units.{scan, begun, at_set, at_free}
 use Rattle.operations.proofs.ByNumber.{sized}
 use Rattle.operations.proofs.unit.unit_literal.Goals as goal
-use Rattle.operations.proofs.unit.unit_literal.Goals.{then-is-set+else-holds, else-is-set+then-owns+else-seen, else-is-set+else-owns}
+use Rattle.operations.proofs.unit.unit_literal.Goals.{then-is_set+else-holds, else-is_set+then-owns+else-seen, else-is_set+else-owns}
 
 pub places-init : goal.places-init
 places-init g c =
@@ -16,28 +16,28 @@ places-init g c =
 pub returns-then-holds : goal.returns-then-holds
 returns-then-holds g c =
     at_set c.args.side c.args.prefix.now (literals (trail_of c.args.trail.now)) (g.D.Database.meaning c.args.database.now).list c.args.number c.places.seen c.places.found
-    c.places.place c.in-Some-code.code _ c.in-Some-code.ensures c.places.invariant c.variable.result c.variable.ensures c.if-is-set.ensures c.implied.result c.implied.ensures.value true c.if-holds.ensures
+    c.places.place c.in-Some-code.code _ c.in-Some-code.ensures c.places.invariant c.variable.result c.variable.ensures c.if-is_set.ensures c.implied.result c.implied.ensures.value true c.if-holds.ensures
 
 pub returns-then-seen : goal.returns-then-seen
 returns-then-seen g c =
     let r = at_free c.args.side c.args.prefix.now (literals (trail_of c.args.trail.now)) (g.D.Database.meaning c.args.database.now).list c.args.number c.places.seen c.places.found
-    c.places.place c.in-Some-code.code _ c.in-Some-code.ensures c.places.invariant c.variable.result c.variable.ensures c.if-is-set.ensures c.variable-else-is-set.result c.variable-else-is-set.ensures c.quantifier-of.result c.quantifier-of.ensures true c.if-owns.ensures.value in
+    c.places.place c.in-Some-code.code _ c.in-Some-code.ensures c.places.invariant c.variable.result c.variable.ensures c.if-is_set.ensures c.variable-else-is_set.result c.variable-else-is_set.ensures c.quantifier_of.result c.quantifier_of.ensures true c.if-owns.ensures.value in
     sym (cond-true c.places.seen None _ c.if-seen.true) ∙ r
 
 pub places-preserved : goal.places-preserved
 places-preserved g c =
-    elim c.if-is-set.branch [
-      | then-is-set+else-holds w ↦
+    elim c.if-is_set.branch [
+      | then-is_set+else-holds w ↦
           let r = at_set c.args.side c.args.prefix.now (literals (trail_of c.args.trail.now)) (g.D.Database.meaning c.args.database.now).list c.args.number c.places.seen c.places.found
-          c.places.place c.in-Some-code.code _ c.in-Some-code.ensures c.places.invariant c.variable.result c.variable.ensures w.if-is-set.ensures w.implied.result w.implied.ensures.value false w.if-holds.ensures in
+          c.places.place c.in-Some-code.code _ c.in-Some-code.ensures c.places.invariant c.variable.result c.variable.ensures w.if-is_set.ensures w.implied.result w.implied.ensures.value false w.if-holds.ensures in
           simp (w.seen-is, w.found-is) r
-      | else-is-set+then-owns+else-seen w ↦
+      | else-is_set+then-owns+else-seen w ↦
           let r = at_free c.args.side c.args.prefix.now (literals (trail_of c.args.trail.now)) (g.D.Database.meaning c.args.database.now).list c.args.number c.places.seen c.places.found
-          c.places.place c.in-Some-code.code _ c.in-Some-code.ensures c.places.invariant c.variable.result c.variable.ensures w.if-is-set.ensures w.variable-else-is-set.result w.variable-else-is-set.ensures w.quantifier-of.result w.quantifier-of.ensures true w.if-owns.ensures.value in
+          c.places.place c.in-Some-code.code _ c.in-Some-code.ensures c.places.invariant c.variable.result c.variable.ensures w.if-is_set.ensures w.variable-else-is_set.result w.variable-else-is_set.ensures w.quantifier_of.result w.quantifier_of.ensures true w.if-owns.ensures.value in
           simp (w.seen-is, w.found-is) (sym (cond-false c.places.seen None _ w.if-seen.false) ∙ r)
-      | else-is-set+else-owns w ↦
+      | else-is_set+else-owns w ↦
           let r = at_free c.args.side c.args.prefix.now (literals (trail_of c.args.trail.now)) (g.D.Database.meaning c.args.database.now).list c.args.number c.places.seen c.places.found
-          c.places.place c.in-Some-code.code _ c.in-Some-code.ensures c.places.invariant c.variable.result c.variable.ensures w.if-is-set.ensures w.variable-else-is-set.result w.variable-else-is-set.ensures w.quantifier-of.result w.quantifier-of.ensures false w.if-owns.ensures.value in
+          c.places.place c.in-Some-code.code _ c.in-Some-code.ensures c.places.invariant c.variable.result c.variable.ensures w.if-is_set.ensures w.variable-else-is_set.result w.variable-else-is_set.ensures w.quantifier_of.result w.quantifier_of.ensures false w.if-owns.ensures.value in
           simp (w.seen-is, w.found-is) r
     ]
 

@@ -5,11 +5,11 @@ use Rattle.operations.specs.declared.entry.Entry.{Entry}
 use Rattle.operations.proofs.Sets.{Sound, tied_none}
 use Rattle.operations.proofs.trail.Trail.new.Goals as goal
 
-pub invariant-of-result : goal.invariant-of-result
-invariant-of-result c =
-    let e = c.in-ok-entries.ensures in
-    let r : vec_items c.in-ok-truth.truth ≡ replicate 1026 false = c.in-ok-truth.ensures.items-if-clones-equal (λ y q. q) in
+pub invariant_of-result : goal.invariant_of-result
+invariant_of-result c =
+    let e = c.in_ok-entries.ensures in
+    let r : vec_items c.in_ok-truth.truth ≡ replicate 1026 false = c.in_ok-truth.ensures.items_if_clones_equal (λ y q. q) in
     let P : List Entry → Type 0 = λ es. Sound (replicate 1026 false) es in
-    let Q : List Bool → Type 0 = λ t. Sound t (vec_items c.in-ok-entries.entries) in
+    let Q : List Bool → Type 0 = λ t. Sound t (vec_items c.in_ok-entries.entries) in
     let s = subst Q (sym r) (subst P (sym e.items) (tied_none 1026, refl, λ l h. absurd (both_ways false refl h))) in
-    (s.0, (s.1, (s.2, (c.in-ok-truth.ensures.len, (omega arith, tt)))))
+    record { tied = s.0; once = s.1; ranged = s.2; size = c.in_ok-truth.ensures.len; room = omega arith }

@@ -9,32 +9,32 @@ use Rattle.operations.specs.Trails.{trail_of}
 use Rattle.operations.proofs.Sets.{pushed, room, entries_push}
 use Rattle.operations.proofs.trail.Trail.push.Goals as goal
 
-pub push-reserved-requires : goal.push-reserved-requires
-push-reserved-requires c =
+pub push_reserved-requires : goal.push_reserved-requires
+push_reserved-requires c =
     let t = c.args.self.now in
     let l = c.args.item.code in
     let i : is_code l ≡ true = code_from l (omega arith) (omega arith) in
-    let u : is_set (literals (trail_of t)) (variable l) ≡ false = ap (is_set (literals (trail_of t))) (sym c.variable.ensures) ∙ sym c.if-is-set.ensures in
+    let u : is_set (literals (trail_of t)) (variable l) ≡ false = ap (is_set (literals (trail_of t))) (sym c.variable.ensures) ∙ sym c.if-is_set.ensures in
     omega (arith, room (vec_items t.entries) l i u t.once t.ranged)
 
-pub invariant-of-self : goal.invariant-of-self
-invariant-of-self c =
+pub invariant_of-self : goal.invariant_of-self
+invariant_of-self c =
     let t = c.args.self.now in
     let l = c.args.item.code in
     let i : is_code l ≡ true = code_from l (omega arith) (omega arith) in
-    let u : is_set (literals (trail_of t)) (variable l) ≡ false = ap (is_set (literals (trail_of t))) (sym c.variable.ensures) ∙ sym c.if-is-set.ensures in
+    let u : is_set (literals (trail_of t)) (variable l) ≡ false = ap (is_set (literals (trail_of t))) (sym c.variable.ensures) ∙ sym c.if-is_set.ensures in
     let n : length (vec_items t.truth) ≡ 1026 = omega arith in
-    let s = pushed (vec_items t.truth) (vec_items t.entries) (vec_items c.push-reserved.new.self) c.args.item c.push-reserved.ensures.items i u n (t.tied, t.once, t.ranged) in
-    (s.0, (s.1, (s.2, (t.size, (omega arith, tt)))))
+    let s = pushed (vec_items t.truth) (vec_items t.entries) (vec_items c.push_reserved.new.self) c.args.item c.push_reserved.ensures.items i u n (t.tied, t.once, t.ranged) in
+    record { tied = s.0; once = s.1; ranged = s.2; size = t.size; room = omega arith }
 
 pub returns : goal.returns
 returns c =
     let t = c.args.self.now in
     let l = c.args.item.code in
     let i : is_code l ≡ true = code_from l (omega arith) (omega arith) in
-    let u : is_set (literals (trail_of t)) (variable l) ≡ false = ap (is_set (literals (trail_of t))) (sym c.variable.ensures) ∙ sym c.if-is-set.ensures in
+    let u : is_set (literals (trail_of t)) (variable l) ≡ false = ap (is_set (literals (trail_of t))) (sym c.variable.ensures) ∙ sym c.if-is_set.ensures in
     record {
       answers = sym (and_from (is_code l) (not (is_set (literals (trail_of t)) (variable l))) i (not_from_false (is_set (literals (trail_of t)) (variable l)) u));
-      trail = ap entries_of c.push-reserved.ensures.items ∙ entries_push (vec_items t.entries) c.args.item;
+      trail = ap entries_of c.push_reserved.ensures.items ∙ entries_push (vec_items t.entries) c.args.item;
       refused = λ e. absurd (both_ways true e refl);
     }
