@@ -1,11 +1,11 @@
 -- One call more, and a list of calls. Assumes nothing.
-use Rattle.std.proofs.Common.{◌≡◌, ℕ, zero, suc, ◌+◌, ◌<◌, ◌≤◌, List, [], ◌∷◌, ◌++◌, map, reverse, length, get_or, take, drop, sym, refl, ap, ◌∙◌, subst, arith}
+use Rattle.std.proofs.Common.{◌≡◌, ℕ, zero, suc, ◌+◌, ◌<◌, List, [], ◌∷◌, map, reverse, length, get_or, take, drop, sym, refl, ap, ◌∙◌, subst}
 use Rattle.std.proofs.lemmas.List.{take_more, reverse-append}
 use Rattle.database.specs.Meaning.{Meaning}
 use Rattle.calculus.specs.declared.answer.Answer.{Answer}
 use Rattle.calculus.specs.declared.call.Call.{Call}
 use Rattle.calculus.specs.State.{State, opening, step}
-use Rattle.calculus.specs.History.{Event, Happens, opened, called, taken_calls, Sound}
+use Rattle.calculus.specs.History.{Event, Happens, opened, called}
 use Rattle.calculus.proofs.Keeping.{every_sound, every_agrees, prefixes}
 use Rattle.session.specs.declared.session.Session.{Session}
 use Rattle.session.specs.States.{state_of, Does}

@@ -1,10 +1,10 @@
 -- Implying and deciding: the literal can be appended, and the trail then is what the rule gives. Assumes nothing.
-use Rattle.std.proofs.Common.{◌≡◌, ℕ, ◌<◌, ◌≤◌, Bool, true, false, cond, not, ◌&&◌, eqb, leb, List, [], ◌∷◌, ◌++◌, length, Some, None, sym, refl, ap, ◌∙◌, subst, arith}
+use Rattle.std.proofs.Common.{◌≡◌, ℕ, ◌≤◌, Bool, true, false, cond, not, ◌&&◌, leb, List, [], ◌∷◌, ◌++◌, length, Some, None, sym, ap, ◌∙◌, subst, arith}
 use Rattle.std.proofs.lemmas.Bool.{and_parts, and_from, cond-true, leb-true, not_from_false}
 use Rattle.qbf.specs.declared.quantifier.Quantifier.{Quantifier}
 use Rattle.qbf.specs.declared.side.Side.{Side}
 use Rattle.qbf.specs.declared.side.Side.TheVariants.{Clause, Cube}
-use Rattle.qbf.specs.Qbf.{variable, complement, has, In, every, is_code, is_set, rising, formed, implied, unit}
+use Rattle.qbf.specs.Qbf.{variable, In, every, is_code, is_set, rising, formed, implied, unit}
 use Rattle.qbf.proofs.Basics.{every_in, implied_variable}
 use Rattle.qbf.proofs.Complements.{code_complement}
 use Rattle.qbf.proofs.Formed.{code_from}
@@ -17,7 +17,7 @@ use Rattle.calculus.specs.declared.call.Call.TheVariants.{Imply, Decide}
 use Rattle.calculus.specs.declared.stage.Stage.{Stage}
 use Rattle.calculus.specs.declared.stage.Stage.TheVariants.{Working}
 use Rattle.calculus.specs.Blocks.{earlier_unset}
-use Rattle.calculus.specs.State.{State, Entry, decision, implication, literals, of_side, database, constraint, is_none, is_named, implied_by, allows, check, effect, with_trail}
+use Rattle.calculus.specs.State.{State, Entry, implication, literals, of_side, database, constraint, is_none, is_named, implied_by, allows, check, effect, with_trail}
 use Rattle.session.proofs.Steps.{allowed, miss, is_working}
 
 in_range : (l : ℕ) → is_code l ≡ true → (2 ≤ l) × (l ≤ 1025)

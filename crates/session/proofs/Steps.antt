@@ -1,5 +1,5 @@
 -- A call by the rules: from its tests to its answer and the state after it. Assumes nothing.
-use Rattle.std.proofs.Common.{◌≡◌, ℕ, Bool, true, false, cond, not, eqb, List, [], ◌∷◌, Some, None, Option, sym, refl, ap, ◌∙◌, subst, arith}
+use Rattle.std.proofs.Common.{◌≡◌, ℕ, Bool, true, false, not, eqb, List, ◌∷◌, Some, None, sym, refl, ap, ◌∙◌, arith}
 use Rattle.std.proofs.lemmas.Bool.{both_ways, cond-true, cond-false}
 use Rattle.faults.specs.declared.refusal.Refusal.{Refusal}
 use Rattle.faults.specs.declared.refusal.Refusal.TheVariants.{WrongStage}
@@ -9,7 +9,7 @@ use Rattle.calculus.specs.declared.answer.Answer.TheVariants.{Taken, Stored, Ref
 use Rattle.calculus.specs.declared.call.Call.{Call}
 use Rattle.calculus.specs.declared.stage.Stage.{Stage}
 use Rattle.calculus.specs.declared.stage.Stage.TheVariants.{Naming, Loading, Working, Derivation, Closed}
-use Rattle.calculus.specs.State.{State, Ground, allows, stage_number, derivation_side, grounds, first, check, effect, answered, step}
+use Rattle.calculus.specs.State.{State, Ground, allows, stage_number, derivation_side, grounds, first, check, effect, answered}
 use Rattle.session.specs.declared.session.Session.{Session}
 use Rattle.session.specs.States.{state_of, Does}
 

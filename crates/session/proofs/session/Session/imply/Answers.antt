@@ -23,11 +23,11 @@ returns g c =
     let literal = c.in-Some.literal in
     let C = constraint (database side σ).list number in
     let is_allowed : allows s.stage (Imply side number) ≡ true = search rules in
-    let was_there : c.is-there.result ≡ true = search rules in
-    let there : is_none (numbered (database side σ).list number) ≡ false = not-true (is_none (numbered (database side σ).list number)) (sym c.is-there.ensures ∙ was_there) in
+    let was_there : c.is_there.result ≡ true = search rules in
+    let there : is_none (numbered (database side σ).list number) ≡ false = not-true (is_none (numbered (database side σ).list number)) (sym c.is_there.ensures ∙ was_there) in
     let is_unit : unit side σ.prefix (literals σ.trail) C ≡ Some literal = sym c.in-Some.ensures in
     let formed_c = constraint_formed (database side σ).list number (side_formed side σ.clauses σ.cubes (g.C.Database.lawful s.clauses) (g.D.Database.lawful s.cubes)) in
-    let code = c.implied_code.ensures.value in
+    let code = c.implied-code.ensures.value in
     let pushed : c.push.result ≡ true =
     c.push.ensures.answers ∙ ap (λ (l : ℕ). is_code l && not (is_set (literals σ.trail) (variable l))) code ∙ implied_free side σ.prefix (literals σ.trail) C literal formed_c is_unit in
     takes m n (Imply side number) s _ _ (imply_passes σ side number literal is_allowed there is_unit)

@@ -14,12 +14,12 @@ returns g c =
     let n = g.D.Database.meaning in
     let s = c.args.self.now in
     let σ = state_of m n s in
-    let added = c.add-working.new.self in
+    let added = c.add_working.new.self in
     let is_allowed : allows s.stage Store ≡ true = search rules in
-    let was_added : c.add-working.result ≡ true = search rules in
-    let has_room : fits (database c.side-side.result σ) σ.working ≡ true = sym c.add-working.ensures.answers ∙ was_added in
+    let was_added : c.add_working.result ≡ true = search rules in
+    let has_room : fits (database c.side-side.result σ) σ.working ≡ true = sym c.add_working.ensures.answers ∙ was_added in
     takes m n Store s _ _
     (store_passes σ c.side-side.result is_allowed c.side-side.ensures has_room)
     (store_effect σ (state_of m n added) c.side-side.result (codes_of c.clear.new.self) c.count.result c.side-side.ensures
-    (c.add-working.ensures.state was_added) c.clear.ensures c.count.ensures)
+    (c.add_working.ensures.state was_added) c.clear.ensures c.count.ensures)
     (stored_no c.count.result)

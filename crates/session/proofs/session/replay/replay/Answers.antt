@@ -1,5 +1,5 @@
 -- The opening is the empty history, and each call one event more.
-use Rattle.std.proofs.Common.{◌≡◌, List, take, sym, ◌∙◌, subst}
+use Rattle.std.proofs.Common.{◌≡◌, List, take, sym, subst}
 use Rattle.std.proofs.lemmas.List.{take_all}
 use Rattle.calculus.specs.declared.call.Call.{Call}
 use Rattle.session.specs.States.{state_of}
