@@ -1,6 +1,5 @@
 -- The number and the layer of each refusal, and how a layer is written. Assumes nothing.
 use Rattle.std.specs.Prelude.{ℕ, List, codes}
-use Rattle.qbf.specs.declared.side.Side.{Side}
 use Rattle.qbf.specs.declared.side.Side.TheVariants.{Clause, Cube}
 use Rattle.faults.specs.declared.refusal.Layer.{Layer}
 use Rattle.faults.specs.declared.refusal.Layer.TheVariants.{Bytes, Stage, Rule, Clauses, Cubes}
