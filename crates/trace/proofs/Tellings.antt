@@ -1,7 +1,7 @@
 -- Any bytes are whole records one after the other, or whole records and then the fault that the outcome names. Assumes nothing.
-use Rattle.std.proofs.Common.{◌≡◌, ℕ, zero, suc, ◌+◌, ◌<◌, ◌≤◌, List, [], ◌∷◌, ◌++◌, length, take, drop, Some, Ok, Err, Result, sym, refl, ap, ◌∙◌, append_assoc, arith, length-append, length-drop, take-append-drop, length-take-le}
+use Rattle.std.proofs.Common.{◌≡◌, ℕ, zero, suc, ◌+◌, ◌<◌, List, [], ◌∷◌, ◌++◌, length, take, drop, Some, Ok, Err, Result, sym, refl, ap, ◌∙◌, append_assoc, arith, length-append, length-drop, take-append-drop, length-take-le}
 use Rattle.faults.specs.declared.fault.Fault.{Fault}
-use Rattle.trace.specs.Format.{Front, body_length, decode}
+use Rattle.trace.specs.Format.{Front, body_length}
 use Rattle.trace.specs.Reading.{Item, AllWhole, spelled, Stops, not_listed, too_short, Tells, after, reads, outcome}
 use Rattle.trace.proofs.Fronts.{Seen, none, fits, unlisted, short, seen}
 

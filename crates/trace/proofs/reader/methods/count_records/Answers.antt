@@ -10,7 +10,7 @@ records-preserved c =
     let h = c.in-Some.ensures.steps in
     (went _ _ _ h ∙ c.records.invariant.0, h.same ∙ c.records.invariant.1)
 
-pub returns-in-default : goal.returns-in-default
-returns-in-default c =
-    let v = c.outcome.ensures ∙ stops _ _ c.in-default.ensures.steps ∙ c.records.invariant.0 in
+pub returns-in_default : goal.returns-in_default
+returns-in_default c =
+    let v = c.outcome.ensures ∙ stops _ _ c.in_default.ensures.steps ∙ c.records.invariant.0 in
     record { value = v; tells = subst (Tells c.args.trace.now) (sym v) (tells c.args.trace.now) }
