@@ -1,4 +1,6 @@
 //! Lists the records of a trace that is read from the standard input, and says where it is cut.
+#![tactic(auto)]
+
 use std::io;
 use std::io::Read;
 use trace::input::{most_read, within_limit};
