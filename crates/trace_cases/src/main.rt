@@ -1,4 +1,6 @@
 //! Runs the reader over whole, cut and unknown records and over inputs at the limit, and prints the last line of each listing.
+#![tactic(auto)]
+
 use faults::fault::Fault;
 use std::io;
 use trace::input::{MOST, within_limit};
