@@ -1,5 +1,5 @@
 -- A check is the run from the opening over two databases. Assumes nothing.
-use Rattle.std.proofs.Common.{◌≡◌, ℕ, List, [], ◌∷◌, ◌++◌, Result, sym, refl, ap, ◌∙◌, subst, append-nil}
+use Rattle.std.proofs.Common.{◌≡◌, ℕ, List, [], Result, sym, refl, ap, ◌∙◌, subst, append-nil}
 use Rattle.faults.specs.declared.fault.Fault.{Fault}
 use Rattle.database.specs.Meaning.{Meaning}
 use Rattle.calculus.specs.declared.verdict.Verdict.{Verdict}

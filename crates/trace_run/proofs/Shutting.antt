@@ -1,5 +1,5 @@
 -- A run that answers a verdict leaves the session closed with it. Assumes nothing.
-use Rattle.std.proofs.Common.{◌≡◌, ℕ, zero, suc, ◌+◌, Bool, true, false, cond, List, [], ◌∷◌, length, Some, None, Ok, Err, Option, sym, refl, ap, ◌∙◌, subst, arith}
+use Rattle.std.proofs.Common.{◌≡◌, ℕ, zero, suc, ◌+◌, List, [], ◌∷◌, length, Some, None, Ok, Err, Option, refl, ap, ◌∙◌, arith}
 use Rattle.std.proofs.lemmas.Bool.{cond-false}
 use Rattle.faults.specs.declared.fault.Fault.{Fault}
 use Rattle.faults.specs.declared.refusal.Refusal.TheVariants.{UnknownKind, CutBody, Unclosed}
@@ -15,7 +15,7 @@ use Rattle.calculus.specs.declared.verdict.Verdict.{Verdict}
 use Rattle.calculus.specs.State.{State, allows, step}
 use Rattle.calculus.specs.History.{Event, verdict_at}
 use Rattle.trace_run.specs.Calls.{call_of}
-use Rattle.trace_run.specs.Runs.{Ran, stops, abandoned, at_end, goes_on, makes, run_front, run_from, ran}
+use Rattle.trace_run.specs.Runs.{Ran, stops, at_end, goes_on, makes, run_front, run_from, ran}
 use Rattle.trace_run.proofs.Stopping.{stops_answer, stops_state}
 
 -- a verdict is answered only where the session is closed with it
