@@ -15,8 +15,8 @@ slots c =
     let l = c.len-size.ensures.value in
     cc
 
-pub invariant-of-self : goal.invariant-of-self
-invariant-of-self c =
+pub invariant_of-self : goal.invariant_of-self
+invariant_of-self c =
     let v = c.args.self.now in
     let w = c.put-2.new.self in
     let xs : List ℕ = v.cells.now in
@@ -27,16 +27,13 @@ invariant-of-self c =
     let whole : w.total ≤ length xs = omega arith in
     let lies : Lies ys w.total v.used w.count = λ k h. omega (arith, w.lies k h) in
     let formed = formed_shown c.args.constraint.complemented c.args.constraint.codes.now c.args.constraint.formed in
-    let news = lies_new xs zs ys w.total v.used w.count C c.write.ensures.wrote (slots c) whole fit lies in (
-      w.whole,
-      (
-        omega arith,
-        (
-          λ k h. omega (arith, news k h),
-          (formed_new xs zs ys w.total v.used w.count C c.write.ensures.wrote (slots c) whole fit w.formed formed, tt),
-        ),
-      ),
-    )
+    let news = lies_new xs zs ys w.total v.used w.count C c.write.ensures.wrote (slots c) whole fit lies in
+    record {
+      whole = w.whole;
+      within = omega arith;
+      lies = λ k h. omega (arith, news k h);
+      formed = formed_new xs zs ys w.total v.used w.count C c.write.ensures.wrote (slots c) whole fit w.formed formed;
+    }
 
 pub returns : goal.returns
 returns c =
