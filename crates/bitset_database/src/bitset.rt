@@ -2,7 +2,7 @@
 ghost use Rattle.std.specs.Prelude.{◌≡◌, ◌/◌, ◌≤◌, min, length};
 ghost use Rattle.bitset_database.specs.Table.{WellFormed};
 
-pub mod database;
+pub mod methods;
 
 /// A row of 1,024 bits for each constraint, one bit for each code from 2 to 1,025.
 #[derive(Drop)]

@@ -2,7 +2,7 @@
 ghost use Rattle.std.specs.Prelude.{◌≡◌, ◌+◌, ◌*◌, ◌≤◌, min, length};
 ghost use Rattle.list_database.specs.Page.{Lies, WellFormed};
 
-pub mod database;
+pub mod methods;
 
 /// The codes of all constraints, one constraint behind the other, from the front of the cells; from the back, two cells for each
 /// constraint: where it starts, and its length. So each code is read in constant time.

@@ -15,8 +15,8 @@ some w p x left nth is e l h =
     let t : 0 < ones (w / 2 ^ p) = omega arith in
     rw is t
 
-pub overflow-shr-rest : goal.overflow-shr-rest
-overflow-shr-rest c =
+pub overflow_shr-rest : goal.overflow_shr-rest
+overflow_shr-rest c =
     let l = c.loop-left in
     let o = some c.args.word l.passed l.rest l.left c.args.nth l.invariant.0 l.invariant.1 l.invariant.2 c.requires.high in
     let h = within c.args.word l.passed l.rest l.invariant.0 (omega arith) o in

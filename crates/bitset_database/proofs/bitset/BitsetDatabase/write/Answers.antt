@@ -27,8 +27,8 @@ code_is c =
     let r = code_at_lem C f c.loop-i.i h in
     (is, omega (arith, r.0), omega (arith, r.1), h)
 
-pub overflow-sub-bit : goal.overflow-sub-bit
-overflow-sub-bit c = (code_is c).1
+pub overflow_sub-bit : goal.overflow_sub-bit
+overflow_sub-bit c = (code_is c).1
 
 pub bounds-self-at : goal.bounds-self-at
 bounds-self-at c = let h = code_is c in omega arith

@@ -5,15 +5,15 @@ use Rattle.qbf.proofs.Views.{formed_shown}
 use Rattle.bitset_rows.specs.Rows.{row}
 use Rattle.bitset_database.specs.Table.{table_meaning}
 use Rattle.bitset_database.proofs.Tables.{formed_new, meaning_added}
-use Rattle.bitset_database.proofs.bitset.database.BitsetDatabaseDatabase.add.Goals as goal
+use Rattle.bitset_database.proofs.bitset.methods.BitsetDatabaseDatabase.add.Goals as goal
 
-pub invariant-of-self : goal.invariant-of-self
-invariant-of-self c =
+pub invariant_of-self : goal.invariant_of-self
+invariant_of-self c =
     let w = c.write.new.self in
     let C : List ℕ = viewed c.args.constraint in
     let f = formed_shown c.args.constraint.complemented c.args.constraint.codes.now c.args.constraint.formed in
     let e : row w.words.now w.count ≡ C = ap (row w.words.now) c.write.ensures.count ∙ c.write.ensures.stored.codes in
-    (w.whole, (omega arith, (formed_new w.words.now w.count C w.formed e f, tt)))
+    record { whole = w.whole; within = omega arith; formed = formed_new w.words.now w.count C w.formed e f }
 
 pub returns : goal.returns
 returns c =

@@ -4,8 +4,8 @@ use Rattle.std.proofs.lemmas.Nat.{ones-le}
 use Rattle.bitset_rows.specs.Rows.{bit, chosen, row}
 use Rattle.bitset_rows.proofs.Rows.{row_none, row_more}
 use Rattle.database.proofs.Counted.{length_counted, length_not_counted}
-use Rattle.bitset_database.proofs.bitset.database.BitsetDatabaseDatabase.length.Goals as goal
-use Rattle.bitset_database.proofs.bitset.database.BitsetDatabaseDatabase.length.Goals.{then-number-eq0-via-then-number-eq0, then-number-eq0-via-else-number-eq0+then-number-self}
+use Rattle.bitset_database.proofs.bitset.methods.BitsetDatabaseDatabase.length.Goals as goal
+use Rattle.bitset_database.proofs.bitset.methods.BitsetDatabaseDatabase.length.Goals.{then-number-eq0-via-then-number-eq0, then-number-eq0-via-else-number-eq0+then-number-self}
 
 pub returns-then-number-eq0 : goal.returns-then-number-eq0
 returns-then-number-eq0 c =
@@ -16,8 +16,8 @@ returns-then-number-eq0 c =
 pub loop-i-init : goal.loop-i-init
 loop-i-init c = (sym (row_none c.args.self.now.words.now (c.args.number - 1)), omega arith)
 
-pub overflow-add-ones-in-loop-i : goal.overflow-add-ones-in-loop-i
-overflow-add-ones-in-loop-i c =
+pub overflow_add-ones-in-loop-i : goal.overflow_add-ones-in-loop-i
+overflow_add-ones-in-loop-i c =
     let w : ℕ = get_or c.args.self.now.words.now (16 * (c.args.number - 1) + c.loop-i.i) 0 in
     let f : w < 2 ^ 64 = omega arith in
     let o : ones w ≤ 64 = ones-le 64 w f in

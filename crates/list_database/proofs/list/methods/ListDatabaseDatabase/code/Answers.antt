@@ -3,8 +3,8 @@ use Rattle.qbf.proofs.Places.{code_none}
 use Rattle.database.proofs.Counted.{code_counted, code_not_counted}
 use Rattle.list_database.specs.Page.{held}
 use Rattle.list_database.proofs.Pages.{lies_page, size_page, code_page}
-use Rattle.list_database.proofs.list.database.ListDatabaseDatabase.code.Goals as goal
-use Rattle.list_database.proofs.list.database.ListDatabaseDatabase.code.Goals.{then-number-eq0-via-then-number-eq0, then-number-eq0-via-else-number-eq0+then-number-self, then-place-eq0-via-then-place-eq0, then-place-eq0-via-else-place-eq0+then-place-size}
+use Rattle.list_database.proofs.list.methods.ListDatabaseDatabase.code.Goals as goal
+use Rattle.list_database.proofs.list.methods.ListDatabaseDatabase.code.Goals.{then-number-eq0-via-then-number-eq0, then-number-eq0-via-else-number-eq0+then-number-self, then-place-eq0-via-then-place-eq0, then-place-eq0-via-else-place-eq0+then-place-size}
 
 pub returns-then-number-eq0 : goal.returns-then-number-eq0
 returns-then-number-eq0 c =

@@ -4,8 +4,8 @@ use Rattle.bitset_rows.specs.Rows.{bit, chosen, row}
 use Rattle.bitset_rows.proofs.Rows.{row_none, row_more, row_at}
 use Rattle.database.proofs.Counted.{code_counted, code_not_counted}
 use Rattle.database.proofs.Numbers.{}
-use Rattle.bitset_database.proofs.bitset.database.BitsetDatabaseDatabase.code.Goals as goal
-use Rattle.bitset_database.proofs.bitset.database.BitsetDatabaseDatabase.code.Goals.{then-number-eq0-via-then-number-eq0, then-number-eq0-via-else-number-eq0+then-number-self, then-number-eq0-via-else-number-eq0+else-number-self+then-place-eq0}
+use Rattle.bitset_database.proofs.bitset.methods.BitsetDatabaseDatabase.code.Goals as goal
+use Rattle.bitset_database.proofs.bitset.methods.BitsetDatabaseDatabase.code.Goals.{then-number-eq0-via-then-number-eq0, then-number-eq0-via-else-number-eq0+then-number-self, then-number-eq0-via-else-number-eq0+else-number-self+then-place-eq0}
 
 pub returns-then-number-eq0 : goal.returns-then-number-eq0
 returns-then-number-eq0 c =

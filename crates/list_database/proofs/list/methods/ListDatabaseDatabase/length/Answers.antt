@@ -2,8 +2,8 @@ use Rattle.std.proofs.Common.{sym, inl, inr, arith}
 use Rattle.database.proofs.Counted.{length_not_counted}
 use Rattle.list_database.specs.Page.{held}
 use Rattle.list_database.proofs.Pages.{length_page}
-use Rattle.list_database.proofs.list.database.ListDatabaseDatabase.length.Goals as goal
-use Rattle.list_database.proofs.list.database.ListDatabaseDatabase.length.Goals.{then-number-eq0-via-then-number-eq0, then-number-eq0-via-else-number-eq0+then-number-self}
+use Rattle.list_database.proofs.list.methods.ListDatabaseDatabase.length.Goals as goal
+use Rattle.list_database.proofs.list.methods.ListDatabaseDatabase.length.Goals.{then-number-eq0-via-then-number-eq0, then-number-eq0-via-else-number-eq0+then-number-self}
 
 pub returns-then-number-eq0 : goal.returns-then-number-eq0
 returns-then-number-eq0 c =
