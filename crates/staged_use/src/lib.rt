@@ -1,4 +1,6 @@
 //! The stages used as they should be: what is loaded is loaded before loading ends, and a derivation is stored or abandoned.
+#![tactic(auto)]
+
 use database::database::Database;
 use faults::refusal::Refusal;
 use qbf::side::Side;
