@@ -1,4 +1,6 @@
 //! Checks a trace that is read from the standard input, and prints its verdict, or the fault that its run stopped at.
+#![tactic(auto)]
+
 ghost use Rattle.std.specs.Prelude.{◌≡◌, ◌<◌, ◌≤◌, length, IfOk, Ok, Err};
 ghost use Rattle.calculus.specs.State.{opening};
 ghost use Rattle.check_trace.specs.Answering.{Answers, start};

@@ -3,6 +3,6 @@ use Rattle.std.proofs.lemmas.Result.{IfOk-from_err}
 use Rattle.check_trace.specs.Answering.{Answers, start}
 use Rattle.check_trace.proofs.answer_to.Goals as goal
 
-pub returns-in-err-words : goal.returns-in-err-words
-returns-in-err-words c =
-    IfOk-from_err c.from-residual-in-err-words.result (Answers start c.args.trace.now) c.from-residual-in-err-words.ensures.0
+pub returns-in_err-words : goal.returns-in_err-words
+returns-in_err-words c =
+    IfOk-from_err c.from_residual-in_err-words.result (Answers start c.args.trace.now) c.from_residual-in_err-words.ensures.0

@@ -12,5 +12,5 @@ pub returns-in-Ok : goal.returns-in-Ok
 returns-in-Ok c =
     record {
       long = λ k. absurd (taken _ _ (lt-leb (length c.args.input.now) 65536 k) c.in-Ok.ensures);
-      within = λ _. c.answer-to.ensures;
+      within = λ _. c.answer_to.ensures;
     }
