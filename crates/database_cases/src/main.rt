@@ -1,4 +1,6 @@
 //! Runs the three constraint databases on small cases, and prints what each does, a line for each case.
+#![tactic(auto)]
+
 use anyhow::anyhow;
 use bitset_database::bitset::BitsetDatabase;
 use database::complemented::ComplementedDatabase;

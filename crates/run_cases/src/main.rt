@@ -1,4 +1,6 @@
 //! Runs whole traces over a list database and a complementing layer over a bitset database, and prints the answer line of each.
+#![tactic(auto)]
+
 use bitset_database::bitset::BitsetDatabase;
 use calculus::verdict::Verdict;
 use database::complemented::ComplementedDatabase;

@@ -1,4 +1,6 @@
 //! Runs worked cases on sessions over list and bitset databases, and prints what each call answers.
+#![tactic(auto)]
+
 use bitset_database::bitset::BitsetDatabase;
 use calculus::answer::Answer;
 use calculus::call::Call;
