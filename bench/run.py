@@ -1,7 +1,7 @@
 #!/usr/bin/env python3
 """Makes long traces and prints how many instructions check_trace spends on a record of each, and the wall time.
 
-usage: bench/run.py        (after 'rt check check_trace'; needs valgrind)
+usage: bench/run.py        (after 'rt run' in crates/check_trace; needs valgrind)
 
 Not part of the gate. A record's cost should not grow with the number of constraints in a database or with the length of the trail, so each
 trace is run at a quarter of its length and at its whole length; the last column is what a record costs in the part that is added.
@@ -13,7 +13,7 @@ import tempfile
 import time
 
 TOP = os.path.dirname(os.path.dirname(os.path.abspath(__file__)))
-PROGRAM = os.path.join(TOP, 'target', 'bin', 'check_trace')
+PROGRAM = os.path.join(TOP, 'crates', 'check_trace', 'out', 'check_trace')
 MOST = 65536
 
 

@@ -1,7 +1,7 @@
 #!/usr/bin/env python3
 """Compares check_trace with a second implementation of the rules, written from docs/RULES.md and docs/FORMAT.md, on many random traces.
 
-usage: tests/compare.py [COUNT] [SEED]     (after 'rt check check_trace')
+usage: tests/compare.py [COUNT] [SEED]     (after 'rt run' in crates/check_trace)
 
 Not part of the gate. Traces are grown by mostly sensible calls, then some are cut, changed in a byte or lengthened.
 """
@@ -11,7 +11,7 @@ import subprocess
 import sys
 
 TOP = os.path.dirname(os.path.dirname(os.path.abspath(__file__)))
-PROGRAM = os.path.join(TOP, 'target', 'bin', 'check_trace')
+PROGRAM = os.path.join(TOP, 'crates', 'check_trace', 'out', 'check_trace')
 BODY = {4: 2, 10: 2, 11: 2, 8: 4, 9: 4, 12: 4, 13: 4, 14: 6}
 LAYER = {1: 'bytes', 2: 'bytes', 3: 'stage', 18: 'bytes', 19: 'bytes'}
 
