@@ -28,7 +28,7 @@ code_is c =
     (is, omega (arith, r.0), omega (arith, r.1), h)
 
 pub overflow_sub-bit : goal.overflow_sub-bit
-overflow_sub-bit c = (code_is c).1
+overflow_sub-bit c = let h = code_is c in omega arith
 
 pub bounds-self-at : goal.bounds-self-at
 bounds-self-at c = let h = code_is c in omega arith
