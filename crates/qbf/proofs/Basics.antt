@@ -5,7 +5,7 @@ use Rattle.qbf.specs.declared.side.Side.{Side}
 use Rattle.qbf.specs.declared.side.Side.TheVariants.{Clause, Cube}
 use Rattle.qbf.specs.Qbf.{variable, complement, setting, has, every, some, In, is_set, rising, against, implied}
 
--- every, some, kept-by over lists of codes
+-- every, some and filter over lists of codes
 pub every_in : (p : ℕ → Bool) (C : List ℕ) (l : ℕ) → every p C ≡ true → has C l ≡ true → p l ≡ true
 every_in p [] l e h = absurd (both_ways false refl h)
 every_in p (m ∷ C) l e h =

@@ -154,7 +154,7 @@ pub record Forces (s : Side) (K : ℕ → Quantifier) (C : List ℕ) (v : ℕ) (
   pub next : v ≤ variable l
   pub rest : (m : ℕ) → has C m ≡ true → (has A (against s m) ≡ true) ⊎ ((m ≡ l) ⊎ Free s K (suc (variable l)) A m)
 
--- against l, the table is isLost away
+-- against l, the table is lost
 forces_against : (s : Side) (K : ℕ → Quantifier) (C : List ℕ) (v w : ℕ) (A : List ℕ) (l : ℕ) → w ≤ suc (variable l) → Forces s K C v A l → Against s K C w (against s l ∷ A)
 forces_against s K C v w A l b F m h = ⊎_elim (λ a. inl (has_tail (against s l) (against s m) A a)) (λ o. ⊎_elim same free o) (F.rest m h)
   where

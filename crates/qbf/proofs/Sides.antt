@@ -26,14 +26,14 @@ value_played v s (k ∷ ks) T A =
     let c = value_played (suc v) s ks T (setting v false ∷ A) in
     cc
 
--- both settings of an own variable must be isLost away, one of any other
+-- both settings of an own variable must be lost, one of any other
 abbrev pub both_or_one : Side → Quantifier → Bool → Bool → Bool
 both_or_one s k a b = cond (own s k) (a && b) (a || b)
 
 abbrev pub broken : Side → List (List ℕ) → List ℕ → Bool
 broken s T A = some (λ C. breaks s A C) T
 
--- the table is isLost away: the variables from v upward have the prefix listed
+-- the table is lost: the variables from v upward have the prefix listed
 abbrev pub is_lost : Side → List (List ℕ) → ℕ → List Quantifier → List ℕ → Bool
 is_lost s T v ks A = play (both_or_one s) (broken s T) v ks A
 
@@ -145,7 +145,7 @@ value_seen Cube prefix A T c n =
     joins Existential a b = refl
     joins Universal a b = refl
 
--- what is isLost away is so in the complemented
+-- what is lost is so in the complemented
 breaks_complemented : (s : Side) (A C : List ℕ) → breaks (opposite_side s) A (map complement C) ≡ breaks s A C
 breaks_complemented s A [] = refl
 breaks_complemented s A (l ∷ C) = ap₂ ◌&&◌ (ap (has A) (turned s l)) (breaks_complemented s A C)

@@ -307,7 +307,7 @@ pub reducing_keeps : Reducing
 reducing_keeps s prefix T C n r a t u =
     reduce_leaves prefix C r 1 [] t (prefix_kinds prefix) (λ l h. let k = n C (inl refl) l h in omega arith) (λ w l. refl) (λ l h d. (n C (inl refl) l h).0) (a t u)
 
--- any of what is entailed may be anyChoice
+-- any of what is entailed may be any choice
 some_append : {X : Type 0} (p : X → Bool) (xs ys : List X) → some p (xs ++ ys) ≡ (some p xs || some p ys)
 some_append p [] ys = refl
 some_append p (x ∷ xs) ys = ap (λ b. p x || b) (some_append p xs ys) ∙ assoc (p x) (some p xs) (some p ys)

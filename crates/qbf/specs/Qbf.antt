@@ -1,6 +1,6 @@
 -- Quantified Boolean formulas as tables of clauses and tables of cubes: literals, the value of a table, the two sides,
 -- and what the calculus makes of constraints (reduce, unit, resolve). Assumes nothing.
-use Rattle.std.specs.Prelude.{◌≡◌, ℕ, suc, pred, ◌+◌, ◌-◌, ◌*◌, ◌/◌, ◌%◌, ◌≤◌, Bool, true, false, cond, not, ◌&&◌, ◌||◌, ltb, ◌⊎◌, List, [], ◌∷◌, map, length, Some, None, filter, Option, ◌==◌, ◌≢◌, nat_le, nat_lt, slice_index_or}
+use Rattle.std.specs.Prelude.{◌≡◌, ℕ, suc, pred, ◌+◌, ◌-◌, ◌*◌, ◌/◌, ◌%◌, ◌≤◌, Bool, true, false, cond, not, ◌&&◌, ◌||◌, ◌⊎◌, List, [], ◌∷◌, map, length, Some, None, filter, Option, ◌==◌, ◌≢◌, nat_le, nat_lt, slice_index_or}
 use Rattle.qbf.specs.declared.quantifier.Quantifier.{Quantifier}
 use Rattle.qbf.specs.declared.quantifier.Quantifier.TheVariants.{Existential, Universal}
 use Rattle.qbf.specs.declared.side.Side.{Side}
@@ -50,7 +50,7 @@ is_code l = nat_le 2 l && nat_le l 1025
 -- Each variable is below all that follow.
 abbrev pub rising : List ℕ → Bool
 rising [] = true
-rising (l ∷ C) = every (λ m. ltb (variable l) (variable m)) C && rising C
+rising (l ∷ C) = every (λ m. nat_lt (variable l) (variable m)) C && rising C
 
 abbrev pub formed : List ℕ → Bool
 formed C = every is_code C && rising C
