@@ -30,6 +30,16 @@ chosen_more_none f n e = chosen_more f n ∙ ap (λ (ys : List ℕ). chosen f n 
 pub chosen_more_one : (f : ℕ → ℕ) (n : ℕ) → f n ≡ 1 → chosen f (n + 1) ≡ chosen f n ++ (n + 2) ∷ []
 chosen_more_one f n e = chosen_more f n ∙ ap (λ (ys : List ℕ). chosen f n ++ ys) (once_one (f n) (n + 2) e)
 
+once_most : (d c : ℕ) → length (once d c) ≤ 1
+once_most zero c = omega arith
+once_most (suc d) c = omega arith
+
+-- no more codes than bits
+pub length_chosen : (f : ℕ → ℕ) (n : ℕ) → length (chosen f n) ≤ n
+unfolding chosen
+length_chosen f zero = omega arith
+length_chosen f (suc n) = omega (arith, length_chosen f n, length-append (chosen f n) (once (f n) (n + 2)), once_most (f n) (n + 2))
+
 pub length_chosen_more : (f : ℕ → ℕ) (n : ℕ) → f n < 2 → length (chosen f (n + 1)) ≡ length (chosen f n) + f n
 length_chosen_more f n h =
     let a = ap length (chosen_more f n) in

@@ -132,12 +132,14 @@ digit_within k w p h e =
     absurd (omega arith))
     (cases_lt p k)
 
--- the lowest digit that is set from the place p on
-module _ (w p x : ℕ) (is : x ≡ w / 2 ^ p) (fits : w < 2 ^ 64) (some : 0 < ones x) where
+-- the lowest digit that is set from the place p on, where some digit is
+module _ (w p x : ℕ) (is : x ≡ w / 2 ^ p) (fits : w < 2 ^ 64) (more : ones (w % 2 ^ p) < ones w) where
   pub lowest : Lowest x (count_trailing_zeros 64 x)
   lowest =
       let l : w / 2 ^ p ≤ w = shr_le w p in
-      trailing_lowest 64 x (ones_some x some) (omega arith)
+      let s : ones w ≡ ones (w / 2 ^ p) + ones (w % 2 ^ p) = ones_split w p in
+      let n : 0 < w / 2 ^ p = ones_some (w / 2 ^ p) (omega arith) in
+      trailing_lowest 64 x (omega arith) (omega arith)
 
   pub found : digit w (p + count_trailing_zeros 64 x) ≡ 1
   found =

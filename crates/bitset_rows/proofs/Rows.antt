@@ -14,6 +14,10 @@ pub row_same : (xs ys : List ℕ) (k : ℕ) → ((i : ℕ) → 16 * k ≤ i → 
 row_same xs ys k h =
     chosen_same (bit ys k) (bit xs k) 1024 (λ b p. ap (λ (w : ℕ). digit w (b % 64)) (h (16 * k + b / 64) (omega arith) (omega arith)))
 
+-- rows of two tables, or at two places, whose words are the same
+pub row_moved : (xs ys : List ℕ) (j k : ℕ) → ((i : ℕ) → i < 16 → get_or ys (16 * k + i) 0 ≡ get_or xs (16 * j + i) 0) → row ys k ≡ row xs j
+row_moved xs ys j k h = chosen_same (bit ys k) (bit xs j) 1024 (λ b p. ap (λ (w : ℕ). digit w (b % 64)) (h (b / 64) (omega arith)))
+
 zero_digit : (w p : ℕ) → w ≡ 0 → digit w p ≡ 0
 zero_digit w p e = let z : 0 / 2 ^ p ≡ 0 = zero-div (2 ^ p) in rw e (omega arith)
 

@@ -1,6 +1,8 @@
 -- What every call keeps, and the theorems on histories. Assumes nothing.
-use Rattle.std.proofs.Common.{◌≡◌, ℕ, ◌^◌, ◌<◌, ◌≤◌, Bool, true, false, cond, not, ◌&&◌, eqb, leb, List, [], ◌∷◌, ◌++◌, length, Some, None, Option, sym, refl, ap, ◌∙◌, subst, ap₂, inl, ⊎_elim, append_assoc, arith, length-append}
+use Rattle.std.proofs.Common.{◌≡◌, ℕ, ◌^◌, ◌<◌, ◌≤◌, Bool, true, false, cond, not, ◌&&◌, eqb, leb, List, [], ◌∷◌, ◌++◌, length, is_none, Some, None, Option, sym, refl, ap, ◌∙◌, subst, ap₂, inl, ⊎_elim, append_assoc, arith, length-append}
 use Rattle.std.proofs.lemmas.Bool.{and_parts, and_from, or_cases, both_ways, eqb-true, leb-true, leb-false, not-false, not_from_false}
+use Rattle.std.proofs.lemmas.List.{append-nil}
+use Rattle.std.proofs.lemmas.Option.{none-some}
 use Rattle.qbf.specs.declared.quantifier.Quantifier.{Quantifier}
 use Rattle.qbf.specs.declared.side.Side.{Side}
 use Rattle.qbf.specs.declared.side.Side.TheVariants.{Clause, Cube}
@@ -9,7 +11,7 @@ use Rattle.qbf.specs.Constraints.{last_variable}
 use Rattle.qbf.specs.Trees.{Derived, stated, reducing, resolving}
 use Rattle.qbf.proofs.Basics.{every_from, setting_variable, implied_variable, some_has}
 use Rattle.qbf.proofs.Forced.{forcing}
-use Rattle.qbf.proofs.Formed.{code_from}
+use Rattle.qbf.proofs.Formed.{code_from, rising_push}
 use Rattle.qbf.proofs.Learned.{fit, learning, Fit}
 use Rattle.faults.specs.declared.refusal.Refusal.{Refusal}
 use Rattle.faults.specs.declared.refusal.Refusal.TheVariants.{WrongStage, TooManyVariables, UnnamedVariable, VariableNotAbove, LiteralsWaiting, NoSuchConstraint, VariableSet, EarlierBlockUnset, ImpliesNothing, NotOwnQuantifier, NoClash, SecondClash, NoEmptyConstraint}
@@ -22,9 +24,9 @@ use Rattle.calculus.specs.declared.verdict.Verdict.{Verdict}
 use Rattle.calculus.specs.declared.verdict.Verdict.TheVariants.{False, True}
 use Rattle.calculus.specs.Blocks.{earlier_unset}
 use Rattle.calculus.specs.Verdicts.{side_of, value_of}
-use Rattle.calculus.specs.State.{Entry, decision, implication, literals, State, opening, database, constraint, is_named, is_empty, is_none, cut, implied_by, clash, second_clash, derivation_side, stage_number, Ground, grounds, first, check, at, with_added, effect, answered, step}
+use Rattle.calculus.specs.State.{Entry, decision, implication, literals, State, opening, database, constraint, is_named, is_empty, cut, implied_by, clash, second_clash, derivation_side, allows, Ground, grounds, first, check, at, with_added, effect, answered, step}
 use Rattle.calculus.specs.History.{Event, Happens, opened, called, is_taken, taken_calls, by_load, by_store, Addition, same, is_load, picked, told, all_of, loaded_of, stored_of, Sound, held, verdict_at, EverySound, EveryAgrees, EveryWithin, AnyCalls, Prefixes}
-use Rattle.calculus.proofs.Lists.{in_left, in_right, in_last, in_snoc, in_numbered, in_empty, append_none, rising_snoc, is_some, unit_of, derived_more, picked_snoc, Open, Stands, stands_snoc, stands_cut, stands_at, stands_more, stands_short, has_snoc}
+use Rattle.calculus.proofs.Lists.{in_left, in_right, in_last, in_snoc, in_numbered, in_empty, is_some, unit_of, derived_more, picked_snoc, Open, Stands, stands_snoc, stands_cut, stands_at, stands_more, stands_short, has_snoc}
 
 abbrev NamedIn : List Quantifier → List ℕ → Type 0
 NamedIn prefix C = (l : ℕ) → has C l ≡ true → (1 ≤ variable l) × (variable l ≤ length prefix)
@@ -57,15 +59,10 @@ record Base (P : List Quantifier) (A : List Addition) (t : List Entry) (σ-prefi
   known : (s : Side) (C : List ℕ) → In C (picked (is_added s) A) → Derived s P (picked (is_loaded s) A) C
   stands : Stands P (λ s. picked (is_added s) A) [] t
 
--- a stage that is no derivation has no side to agree on
-abbrev Sided : List Call → Stage → Type 0
-Sided h g = (s : Side) → g ≡ Derivation s → (told h).begun ≡ s
-
 record Kept (h : List Call) (σ : State) : Type 0 where
   base : Base (told h).prefix (told h).additions (told h).trail σ.prefix σ.trail (λ s. (database s σ).list)
   working : σ.working ≡ held σ.stage h
   verdict : (told h).verdict ≡ verdict_at σ.stage
-  side : Sided h σ.stage
   facts : Facts h σ.stage σ.working
 
 module _ (h : List Call) (σ : State) (k : Kept h σ) where
@@ -80,37 +77,46 @@ passed : (g : Ground) (gs : List Ground) → first (g ∷ gs) ≡ None → (g.0 
 passed g gs e = go g.0 refl e
   where
     go : (b : Bool) → g.0 ≡ b → cond b (Some g.1) (first gs) ≡ None → (g.0 ≡ false) × (first gs ≡ None)
-    go true p q = absurd (let z : ◌≡◌ {A = ℕ} 0 1 = cc in omega arith)
+    go true p q = absurd (none-some g.1 (sym q))
     go false p q = (p, q)
 
--- the stage of a call that passes
-at_naming : (g : Stage) → not (eqb (stage_number g) 0) ≡ false → g ≡ Naming
-at_naming Naming e = refl
-at_naming Loading e = absurd (both_ways true e refl)
-at_naming Working e = absurd (both_ways true e refl)
-at_naming (Derivation s) e = absurd (both_ways true e refl)
-at_naming (Closed v) e = absurd (both_ways true e refl)
+-- the stage that allows a call; of a derivation with the side of the stage given
+abbrev pub home : Stage → Call → Stage
+home g (Name q) = Naming
+home g EndNaming = Naming
+home g (Put l) = Loading
+home g (Load s) = Loading
+home g EndLoading = Loading
+home g (Imply s n) = Working
+home g (Decide l) = Working
+home g (Undo k) = Working
+home g (Begin s n) = Working
+home g (Resolve n v) = Derivation (derivation_side g)
+home g Reduce = Derivation (derivation_side g)
+home g Store = Derivation (derivation_side g)
+home g Abandon = Derivation (derivation_side g)
+home g (Close v) = Working
 
-at_loading : (g : Stage) → not (eqb (stage_number g) 1) ≡ false → g ≡ Loading
-at_loading Naming e = absurd (both_ways true e refl)
-at_loading Loading e = refl
-at_loading Working e = absurd (both_ways true e refl)
-at_loading (Derivation s) e = absurd (both_ways true e refl)
-at_loading (Closed v) e = absurd (both_ways true e refl)
+pub at_home : (g : Stage) (c : Call) → allows g c ≡ true → g ≡ home g c
+at_home Naming (Name q) e = refl
+at_home Naming EndNaming e = refl
+at_home Loading (Put l) e = refl
+at_home Loading (Load s) e = refl
+at_home Loading EndLoading e = refl
+at_home Working (Imply s n) e = refl
+at_home Working (Decide l) e = refl
+at_home Working (Undo k) e = refl
+at_home Working (Begin s n) e = refl
+at_home Working (Close v) e = refl
+at_home (Derivation s) (Resolve n v) e = refl
+at_home (Derivation s) Reduce e = refl
+at_home (Derivation s) Store e = refl
+at_home (Derivation s) Abandon e = refl
+at_home g c e = absurd (both_ways false refl e)
 
-at_working : (g : Stage) → not (eqb (stage_number g) 2) ≡ false → g ≡ Working
-at_working Naming e = absurd (both_ways true e refl)
-at_working Loading e = absurd (both_ways true e refl)
-at_working Working e = refl
-at_working (Derivation s) e = absurd (both_ways true e refl)
-at_working (Closed v) e = absurd (both_ways true e refl)
-
-at_derivation : (g : Stage) → not (eqb (stage_number g) 3) ≡ false → g ≡ Derivation (derivation_side g)
-at_derivation Naming e = absurd (both_ways true e refl)
-at_derivation Loading e = absurd (both_ways true e refl)
-at_derivation Working e = absurd (both_ways true e refl)
-at_derivation (Derivation s) e = refl
-at_derivation (Closed v) e = absurd (both_ways true e refl)
+-- a call that passes is at its stage, and none of its own grounds holds
+admitted : (σ : State) (c : Call) → check σ c ≡ None → (σ.stage ≡ home σ.stage c) × (first (grounds σ c) ≡ None)
+admitted σ c e = let p = passed (not (allows σ.stage c), WrongStage) (grounds σ c) e in (at_home σ.stage c (not-false (allows σ.stage c) p.0), p.1)
 
 -- equal sides, and the lists after an addition
 same_is : (s t : Side) → same s t ≡ true → s ≡ t
@@ -133,13 +139,10 @@ at_stage h σ g e k = (
   subst (λ x. (told h).verdict ≡ verdict_at x) e k.verdict,
 )
 
-unsided : (h : List Call) (g : Stage) → (stage_number g ≡ 3 → ⊥) → Sided h g
-unsided h g d s e = absurd (d (ap stage_number e))
-
 keeps_name : (h : List Call) (σ : State) (q : Quantifier) → Kept h σ → check σ (Name q) ≡ None → Kept (Name q ∷ h) (effect σ (Name q)).0
 keeps_name h σ q k c =
-    let p = passed (not (eqb (stage_number σ.stage) 0), WrongStage) (grounds σ (Name q)) c in
-    let f = at_stage h σ Naming (at_naming σ.stage p.0) k in
+    let p = admitted σ (Name q) c in
+    let f = at_stage h σ Naming p.0 k in
     record {
       base =
           record {
@@ -153,19 +156,17 @@ keeps_name h σ q k c =
           };
       working = f.1;
       verdict = f.2;
-      side = unsided (Name q ∷ h) Naming (omega arith);
       facts = f.0;
     }
 
 keeps_end_naming : (h : List Call) (σ : State) → Kept h σ → check σ EndNaming ≡ None → Kept (EndNaming ∷ h) (effect σ EndNaming).0
 keeps_end_naming h σ k c =
-    let p = passed (not (eqb (stage_number σ.stage) 0), WrongStage) (grounds σ EndNaming) c in
-    let f = at_stage h σ Naming (at_naming σ.stage p.0) k in
+    let p = admitted σ EndNaming c in
+    let f = at_stage h σ Naming p.0 k in
     record {
       base = k.base;
       working = f.1;
       verdict = f.2;
-      side = unsided (EndNaming ∷ h) Loading (omega arith);
       facts = (
         subst (λ C. rising C ≡ true) (sym f.0.0) refl,
         subst (λ C. NamedIn (told h).prefix C) (sym f.0.0) (λ l i. absurd (both_ways false refl i)),
@@ -186,8 +187,8 @@ named_snoc prefix C l n i m j = ⊎_elim here (λ e. n m e) (or_cases (eqb m l) 
 
 keeps_put : (h : List Call) (σ : State) (l : ℕ) → Kept h σ → check σ (Put l) ≡ None → Kept (Put l ∷ h) (effect σ (Put l)).0
 keeps_put h σ l k c =
-    let p = passed (not (eqb (stage_number σ.stage) 1), WrongStage) (grounds σ (Put l)) c in
-    let f = at_stage h σ Loading (at_loading σ.stage p.0) k in
+    let p = admitted σ (Put l) c in
+    let f = at_stage h σ Loading p.0 k in
     let named = is_named σ.prefix (variable l) in
     let q = passed (not named, UnnamedVariable) ((leb (variable l) (last_variable σ.working), VariableNotAbove) ∷ []) p.1 in
     let r = passed (leb (variable l) (last_variable σ.working), VariableNotAbove) [] q.1 in
@@ -195,9 +196,8 @@ keeps_put h σ l k c =
       base = k.base;
       working = ap (λ C. C ++ (l ∷ [])) f.1;
       verdict = f.2;
-      side = unsided (Put l ∷ h) Loading (omega arith);
       facts = (
-        rising_snoc σ.working l f.0.0 (leb-false (variable l) (last_variable σ.working) r.0),
+        rising_push σ.working l f.0.0 (leb-false (variable l) (last_variable σ.working) r.0),
         named_snoc (told h).prefix σ.working l f.0.1 (subst (λ prefix. is_named prefix (variable l) ≡ true) k.base.prefix (not-false named q.0)),
         f.0.2,
       );
@@ -227,7 +227,6 @@ keeps_load h σ s k c =
           };
       working = refl;
       verdict = f.2;
-      side = unsided (Load s ∷ h) Loading (omega arith);
       facts = (refl, (λ l i. absurd (both_ways false refl i)), λ t. picked_snoc (is_stored t) (told h).additions a ∙ unstored t (same t s));
     }
   where
@@ -238,12 +237,12 @@ keeps_load h σ s k c =
     a = record { side = s; origin = by_load; codes = (told h).waiting }
 
     f : Facts h Loading σ.working × (σ.working ≡ (told h).waiting) × ((told h).verdict ≡ None)
-    f = at_stage h σ Loading (at_loading σ.stage (passed (not (eqb (stage_number σ.stage) 1), WrongStage) (grounds σ (Load s)) c).0) k
+    f = at_stage h σ Loading (admitted σ (Load s) c).0 k
 
     parted : (t : Side) (b : Bool) → cond b (all_of t h ++ (W ∷ [])) (all_of t h) ≡ cond (b && true) (loaded_of t h ++ (W ∷ [])) (loaded_of t h) ++ cond (b && false) (stored_of t h ++ (W ∷ [])) (stored_of t h)
     parted t true =
-        ap (λ L. L ++ (W ∷ [])) (k.base.parts t ∙ ap (λ S. loaded_of t h ++ S) (f.0.2 t) ∙ append_none (loaded_of t h))
-        ∙ sym (append_none (loaded_of t h ++ (W ∷ []))) ∙ ap (λ S. (loaded_of t h ++ (W ∷ [])) ++ S) (sym (f.0.2 t))
+        ap (λ L. L ++ (W ∷ [])) (k.base.parts t ∙ ap (λ S. loaded_of t h ++ S) (f.0.2 t) ∙ append-nil (loaded_of t h))
+        ∙ sym (append-nil (loaded_of t h ++ (W ∷ []))) ∙ ap (λ S. (loaded_of t h ++ (W ∷ [])) ++ S) (sym (f.0.2 t))
     parted t false = k.base.parts t
 
     unstored : (t : Side) (b : Bool) → cond (b && false) (stored_of t h ++ (W ∷ [])) (stored_of t h) ≡ []
@@ -268,15 +267,14 @@ keeps_load h σ s k c =
 
 keeps_end_loading : (h : List Call) (σ : State) → Kept h σ → check σ EndLoading ≡ None → Kept (EndLoading ∷ h) (effect σ EndLoading).0
 keeps_end_loading h σ k c =
-    let p = passed (not (eqb (stage_number σ.stage) 1), WrongStage) (grounds σ EndLoading) c in
-    let f = at_stage h σ Loading (at_loading σ.stage p.0) k in
+    let p = admitted σ EndLoading c in
+    let f = at_stage h σ Loading p.0 k in
     let q = passed (not (is_empty σ.working), LiteralsWaiting) [] p.1 in
     let z = none σ.working (not-false (is_empty σ.working) q.0) in
     record {
       base = k.base;
       working = z;
       verdict = f.2;
-      side = unsided (EndLoading ∷ h) Working (omega arith);
       facts = z;
     }
   where
@@ -303,7 +301,6 @@ keeps_imply h σ s n k c =
           };
       working = f.1;
       verdict = f.2;
-      side = unsided (Imply s n ∷ h) Working (omega arith);
       facts = f.0;
     }
   where
@@ -325,11 +322,11 @@ keeps_imply h σ s n k c =
         ∙ ap (λ t. unit s (told h).prefix (literals t) (constraint (database s σ).list n)) k.base.trail
         ∙ ap (λ L. unit s (told h).prefix A (constraint L n)) (k.base.lists s)
 
-    p : (not (eqb (stage_number σ.stage) 2) ≡ false) × (first (grounds σ (Imply s n)) ≡ None)
-    p = passed (not (eqb (stage_number σ.stage) 2), WrongStage) (grounds σ (Imply s n)) c
+    p : (σ.stage ≡ home σ.stage (Imply s n)) × (first (grounds σ (Imply s n)) ≡ None)
+    p = admitted σ (Imply s n) c
 
     f : Facts h Working σ.working × (σ.working ≡ []) × ((told h).verdict ≡ None)
-    f = at_stage h σ Working (at_working σ.stage p.0) k
+    f = at_stage h σ Working p.0 k
 
     q : (is_none (numbered (database s σ).list n) ≡ false) × (first ((is_none V, ImpliesNothing) ∷ []) ≡ None)
     q = passed (is_none (numbered (database s σ).list n), NoSuchConstraint) ((is_none V, ImpliesNothing) ∷ []) p.1
@@ -370,7 +367,6 @@ keeps_decide h σ l k c =
           };
       working = f.1;
       verdict = f.2;
-      side = unsided (Decide l ∷ h) Working (omega arith);
       facts = f.0;
     }
   where
@@ -383,8 +379,8 @@ keeps_decide h σ l k c =
     last₂ : Ground
     last₂ = (earlier_unset σ.prefix (literals σ.trail) (variable l), EarlierBlockUnset)
 
-    p : (not (eqb (stage_number σ.stage) 2) ≡ false) × (first (grounds σ (Decide l)) ≡ None)
-    p = passed (not (eqb (stage_number σ.stage) 2), WrongStage) (grounds σ (Decide l)) c
+    p : (σ.stage ≡ home σ.stage (Decide l)) × (first (grounds σ (Decide l)) ≡ None)
+    p = admitted σ (Decide l) c
 
     p₁ : (last₀.0 ≡ false) × (first (last₁ ∷ last₂ ∷ []) ≡ None)
     p₁ = passed last₀ (last₁ ∷ last₂ ∷ []) p.1
@@ -393,12 +389,12 @@ keeps_decide h σ l k c =
     q = and_parts (leb 1 (variable l)) (leb (variable l) (length σ.prefix)) (not-false (is_named σ.prefix (variable l)) p₁.0)
 
     f : Facts h Working σ.working × (σ.working ≡ []) × ((told h).verdict ≡ None)
-    f = at_stage h σ Working (at_working σ.stage p.0) k
+    f = at_stage h σ Working p.0 k
 
 keeps_undo : (h : List Call) (σ : State) (n : ℕ) → Kept h σ → check σ (Undo n) ≡ None → Kept (Undo n ∷ h) (effect σ (Undo n)).0
 keeps_undo h σ n k c =
-    let p = passed (not (eqb (stage_number σ.stage) 2), WrongStage) (grounds σ (Undo n)) c in
-    let f = at_stage h σ Working (at_working σ.stage p.0) k in
+    let p = admitted σ (Undo n) c in
+    let f = at_stage h σ Working p.0 k in
     record {
       base =
           record {
@@ -412,15 +408,14 @@ keeps_undo h σ n k c =
           };
       working = f.1;
       verdict = f.2;
-      side = unsided (Undo n ∷ h) Working (omega arith);
       facts = f.0;
     }
 
 -- calls of a derivation
 keeps_begin : (h : List Call) (σ : State) (s : Side) (n : ℕ) → Kept h σ → check σ (Begin s n) ≡ None → Kept (Begin s n ∷ h) (effect σ (Begin s n)).0
 keeps_begin h σ s n k c =
-    let p = passed (not (eqb (stage_number σ.stage) 2), WrongStage) (grounds σ (Begin s n)) c in
-    let f = at_stage h σ Working (at_working σ.stage p.0) k in
+    let p = admitted σ (Begin s n) c in
+    let f = at_stage h σ Working p.0 k in
     let q = passed (is_none (numbered (database s σ).list n), NoSuchConstraint) [] p.1 in
     let e = k.base.lists s in
     let i = in_numbered (all_of s h) n (subst (λ L. is_none (numbered L n) ≡ false) e q.0) in
@@ -428,7 +423,6 @@ keeps_begin h σ s n k c =
       base = k.base;
       working = ap (λ L. constraint L n) e;
       verdict = f.2;
-      side = λ t g. cc;
       facts = (refl, subst (λ L. Derived s (told h).prefix (loaded_of s h) (constraint L n)) (sym e) (k.base.known s (constraint (all_of s h) n) i));
     }
 
@@ -439,14 +433,14 @@ record Deriving (h : List Call) (σ : State) : Type 0 where
   is_derived : Derived (derivation_side σ.stage) (told h).prefix (loaded_of (derivation_side σ.stage) h) σ.working
   no_verdict : (told h).verdict ≡ None
 
-deriving_now : (h : List Call) (σ : State) → Kept h σ → not (eqb (stage_number σ.stage) 3) ≡ false → Deriving h σ
+deriving_now : (h : List Call) (σ : State) → Kept h σ → σ.stage ≡ Derivation (derivation_side σ.stage) → Deriving h σ
 deriving_now h σ k e =
-    let f = at_stage h σ (Derivation (derivation_side σ.stage)) (at_derivation σ.stage e) k in
+    let f = at_stage h σ (Derivation (derivation_side σ.stage)) e k in
     record { its_side = f.0.0; its_constraint = f.1; is_derived = f.0.1; no_verdict = f.2 }
 
 keeps_reduce : (h : List Call) (σ : State) → Kept h σ → check σ Reduce ≡ None → Kept (Reduce ∷ h) (effect σ Reduce).0
 keeps_reduce h σ k c =
-    let p = passed (not (eqb (stage_number σ.stage) 3), WrongStage) (grounds σ Reduce) c in
+    let p = admitted σ Reduce c in
     let d = deriving_now h σ k p.0 in
     let s = derivation_side σ.stage in
     record {
@@ -456,7 +450,6 @@ keeps_reduce h σ k c =
           ∙ ap (λ C. reduce s (told h).prefix C) d.its_constraint
           ∙ ap (λ t. reduce t (told h).prefix (told h).derived) (sym d.its_side);
       verdict = d.no_verdict;
-      side = λ t g. (let e = d.its_side in let z : derivation_side (Derivation s) ≡ derivation_side (Derivation t) = ap derivation_side g in e ∙ z);
       facts = (d.its_side, subst (λ prefix. Derived s (told h).prefix (loaded_of s h) (reduce s prefix σ.working)) (sym k.base.prefix) (reducing d.is_derived));
     }
 
@@ -493,7 +486,6 @@ keeps_resolve h σ n v k c =
       working =
           ap₂ (λ C E. resolve C E v) d.its_constraint (ap (λ L. constraint L n) (k.base.lists s) ∙ ap (λ t. constraint (all_of t h) n) (sym d.its_side));
       verdict = d.no_verdict;
-      side = λ t g. d.its_side ∙ ap derivation_side g;
       facts = (
         d.its_side,
         resolved_on s (told h).prefix (loaded_of s h) σ.working D v
@@ -524,8 +516,8 @@ keeps_resolve h σ n v k c =
     g₅ : Ground
     g₅ = (second_clash σ.working D v, SecondClash)
 
-    p₀ : (not (eqb (stage_number σ.stage) 3) ≡ false) × (first (grounds σ (Resolve n v)) ≡ None)
-    p₀ = passed (not (eqb (stage_number σ.stage) 3), WrongStage) (grounds σ (Resolve n v)) c
+    p₀ : (σ.stage ≡ home σ.stage (Resolve n v)) × (first (grounds σ (Resolve n v)) ≡ None)
+    p₀ = admitted σ (Resolve n v) c
 
     p₁ : (g₁.0 ≡ false) × (first (g₂ ∷ g₃ ∷ g₄ ∷ g₅ ∷ []) ≡ None)
     p₁ = passed g₁ (g₂ ∷ g₃ ∷ g₄ ∷ g₅ ∷ []) p₀.1
@@ -547,27 +539,25 @@ keeps_resolve h σ n v k c =
 
 keeps_abandon : (h : List Call) (σ : State) → Kept h σ → check σ Abandon ≡ None → Kept (Abandon ∷ h) (effect σ Abandon).0
 keeps_abandon h σ k c =
-    let p = passed (not (eqb (stage_number σ.stage) 3), WrongStage) (grounds σ Abandon) c in
+    let p = admitted σ Abandon c in
     let d = deriving_now h σ k p.0 in
     record {
       base = k.base;
       working = refl;
       verdict = d.no_verdict;
-      side = unsided (Abandon ∷ h) Working (omega arith);
       facts = refl;
     }
 
 keeps_close : (h : List Call) (σ : State) (v : Verdict) → Kept h σ → check σ (Close v) ≡ None → Kept (Close v ∷ h) (effect σ (Close v)).0
 keeps_close h σ v k c =
-    let p = passed (not (eqb (stage_number σ.stage) 2), WrongStage) (grounds σ (Close v)) c in
-    let f = at_stage h σ Working (at_working σ.stage p.0) k in
+    let p = admitted σ (Close v) c in
+    let f = at_stage h σ Working p.0 k in
     let T = (database (side_of v) σ).list in
     let q = passed (not (some is_empty T), NoEmptyConstraint) [] p.1 in
     record {
       base = k.base;
       working = f.0;
       verdict = refl;
-      side = unsided (Close v ∷ h) (Closed v) (omega arith);
       facts = subst (λ L. In [] L) (k.base.lists (side_of v)) (in_empty T (not-false (some is_empty T) q.0));
     }
 
@@ -595,7 +585,6 @@ keeps_store h σ k c =
           };
       working = refl;
       verdict = d.no_verdict;
-      side = unsided (Store ∷ h) Working (omega arith);
       facts = refl;
     }
   where
@@ -603,7 +592,7 @@ keeps_store h σ k c =
     s = derivation_side σ.stage
 
     d : Deriving h σ
-    d = deriving_now h σ k (passed (not (eqb (stage_number σ.stage) 3), WrongStage) (grounds σ Store) c).0
+    d = deriving_now h σ k (admitted σ Store c).0
 
     D : List ℕ
     D = (told h).derived
@@ -669,7 +658,6 @@ kept {m = m} {n = n} opened =
           };
       working = refl;
       verdict = refl;
-      side = unsided [] Naming (omega arith);
       facts = (refl, refl, refl);
     }
   where
@@ -685,11 +673,8 @@ kept (called {h = h} {σ = σ} c H) = go (kept H) (check σ c) refl
 -- THE THEOREMS.
 module _ (h : List Call) (σ : State) (k : Kept h σ) where
   closed_empty : (v : Verdict) (g : Stage) (C : List ℕ) → verdict_at g ≡ Some v → Facts h g C → In [] (all_of (side_of v) h)
-  closed_empty v Naming C e f = absurd (let z : ◌≡◌ {A = ℕ} 0 1 = cc in omega arith)
-  closed_empty v Loading C e f = absurd (let z : ◌≡◌ {A = ℕ} 0 1 = cc in omega arith)
-  closed_empty v Working C e f = absurd (let z : ◌≡◌ {A = ℕ} 0 1 = cc in omega arith)
-  closed_empty v (Derivation s) C e f = absurd (let z : ◌≡◌ {A = ℕ} 0 1 = cc in omega arith)
   closed_empty v (Closed w) C e f = let q : w ≡ v = cc in subst (λ x. In [] (all_of (side_of x) h)) q f
+  closed_empty v g C e f = absurd (none-some v e)
 
   losing_is : (v : Verdict) → losing (side_of v) ≡ value_of v
   losing_is False = refl
@@ -729,7 +714,7 @@ every_agrees m n h σ H =
       trail = k.base.trail;
       working = k.working;
       verdict = k.verdict;
-      side = k.side;
+      side = λ s e. (subst (λ g. Facts (taken_calls h) g σ.working) e k.facts).0;
     }
 
 pub any_calls : AnyCalls
@@ -768,7 +753,7 @@ module _ (m n : Meaning) where
 
   numbers_step : (σ : State) (c : Call) → Numbers m n σ → check σ c ≡ None → Numbers m n (effect σ c).0
   numbers_step σ (Name q) h e =
-      let p = passed (not (eqb (stage_number σ.stage) 0), WrongStage) (grounds σ (Name q)) e in
+      let p = admitted σ (Name q) e in
       let r = leb-false 512 (length σ.prefix) (passed (leb 512 (length σ.prefix), TooManyVariables) [] p.1).0 in
       record { few_named = omega (arith, length-append σ.prefix (q ∷ [])); clauses_sized = h.clauses_sized; cubes_sized = h.cubes_sized }
   numbers_step σ EndNaming h e = numbers_moved σ (effect σ EndNaming).0 refl refl refl h

@@ -1,15 +1,18 @@
 -- Members of lists, rising lists, additions, trails. Assumes nothing.
-use Rattle.std.proofs.Common.{◌≡◌, ℕ, zero, suc, ◌+◌, ◌-◌, ◌<◌, ◌≤◌, Bool, true, false, cond, not, ◌&&◌, ◌||◌, eqb, ltb, leb, ◌⊎◌, List, [], ◌∷◌, ◌++◌, map, length, get_or, Some, None, filter, Option, sym, refl, ap, ◌∙◌, subst, ap₂, inl, inr, ⊎_elim, append_assoc, arith}
-use Rattle.std.proofs.lemmas.Bool.{and_parts, and_from, both_ways, ltb-true, lt-ltb, leb-true, not-true, cases_eq}
+use Rattle.std.proofs.Common.{◌≡◌, ℕ, zero, suc, ◌+◌, ◌-◌, ◌<◌, ◌≤◌, Bool, true, false, cond, not, ◌&&◌, ◌||◌, eqb, leb, ◌⊎◌, List, [], ◌∷◌, ◌++◌, map, length, get_or, is_none, unwrap_or, Some, None, filter, Option, sym, refl, ap, ◌∙◌, subst, ap₂, inl, inr, ⊎_elim, append_assoc, arith}
+use Rattle.std.proofs.lemmas.Bool.{and_parts, both_ways, leb-true, not-true, cases_eq}
+use Rattle.std.proofs.lemmas.List.{append-nil, map-append}
+use Rattle.std.proofs.lemmas.List.Elements.{filter-append}
+use Rattle.std.proofs.lemmas.Option.{none-some}
 use Rattle.qbf.specs.declared.quantifier.Quantifier.{Quantifier}
 use Rattle.qbf.specs.declared.side.Side.{Side}
-use Rattle.qbf.specs.Qbf.{variable, complement, has, every, some, In, is_set, setting, Consistent, rising, reduce, unset, implied, own_from, only, unit}
-use Rattle.qbf.specs.Constraints.{last_variable}
+use Rattle.qbf.specs.Qbf.{variable, complement, has, some, In, is_set, setting, Consistent, reduce, unset, implied, own_from, only, unit}
 use Rattle.qbf.specs.Trees.{Derived, stated, reducing, resolving}
 use Rattle.qbf.proofs.Basics.{set_other, set_new, has_head, keep_has}
+use Rattle.qbf.proofs.Forced.{only_is}
 use Rattle.qbf.proofs.Sides.{clear_more}
 use Rattle.database.specs.Meaning.{numbered}
-use Rattle.calculus.specs.State.{Entry, decision, implication, literal_of, literals, cut, constraint, or_empty, is_empty, is_none}
+use Rattle.calculus.specs.State.{Entry, decision, implication, literal_of, literals, cut, constraint, is_empty}
 use Rattle.calculus.specs.History.{Addition, picked}
 
 pub in_left : {X : Type 0} (x : X) (xs ys : List X) → In x xs → In x (xs ++ ys)
@@ -40,7 +43,7 @@ in_at (x ∷ xs) (suc i) d h = inr (in_at xs i d (omega arith))
 pub in_numbered : (T : List (List ℕ)) (n : ℕ) → is_none (numbered T n) ≡ false → In (constraint T n) T
 in_numbered T n h = go (leb 1 n && leb n (length T)) refl h
   where
-    go : (b : Bool) → (leb 1 n && leb n (length T)) ≡ b → is_none (cond b (Some (get_or T (n - 1) [])) None) ≡ false → In (or_empty (cond b (Some (get_or T (n - 1) [])) None)) T
+    go : (b : Bool) → (leb 1 n && leb n (length T)) ≡ b → is_none (cond b (Some (get_or T (n - 1) [])) None) ≡ false → In (unwrap_or (cond b (Some (get_or T (n - 1) [])) None) []) T
     go true e q =
         let p = and_parts (leb 1 n) (leb n (length T)) e in
         let a = leb-true 1 n p.0 in
@@ -52,10 +55,6 @@ pub in_empty : (T : List (List ℕ)) → some is_empty T ≡ true → In [] T
 in_empty [] h = absurd (both_ways false refl h)
 in_empty ([] ∷ T) h = inl refl
 in_empty ((l ∷ C) ∷ T) h = inr (in_empty T h)
-
-pub append_none : {X : Type 0} (xs : List X) → xs ++ [] ≡ xs
-append_none [] = refl
-append_none (x ∷ xs) = ap (λ ys. x ∷ ys) (append_none xs)
 
 pub has_snoc : (A : List ℕ) (x l : ℕ) → has (A ++ (x ∷ [])) l ≡ has (x ∷ A) l
 has_snoc [] x l = refl
@@ -70,35 +69,6 @@ has_snoc (a ∷ A) x l = ap (λ b. eqb l a || b) (has_snoc A x l) ∙ go (eqb l 
 pub consistent_snoc : (A : List ℕ) (x : ℕ) → Consistent A → is_set A (variable x) ≡ false → Consistent (A ++ (x ∷ []))
 consistent_snoc A x c u l i j = clear_more A x c u l (sym (has_snoc A x l) ∙ i) (sym (has_snoc A x (complement l)) ∙ j)
 
--- a code above the last variable keeps a list rising
-every_push : (p : ℕ → Bool) (C : List ℕ) (l : ℕ) → every p C ≡ true → p l ≡ true → every p (C ++ (l ∷ [])) ≡ true
-every_push p [] l e h = and_from (p l) true h refl
-every_push p (m ∷ C) l e h = let q = and_parts (p m) (every p C) e in and_from (p m) (every p (C ++ (l ∷ []))) q.0 (every_push p C l q.1 h)
-
-below_last : (l : ℕ) (C : List ℕ) → rising (l ∷ C) ≡ true → variable l ≤ last_variable (l ∷ C)
-below_last l [] r = omega arith
-below_last l (m ∷ C) r =
-    let p = and_parts (every (λ x. ltb (variable l) (variable x)) (m ∷ C)) (rising (m ∷ C)) r in
-    let q = and_parts (ltb (variable l) (variable m)) (every (λ x. ltb (variable l) (variable x)) C) p.0 in
-    let a = ltb-true (variable l) (variable m) q.0 in
-    let b = below_last m C p.1 in
-    omega arith
-
-pub rising_snoc : (C : List ℕ) (l : ℕ) → rising C ≡ true → last_variable C < variable l → rising (C ++ (l ∷ [])) ≡ true
-rising_snoc [] l r h = refl
-rising_snoc (m ∷ []) l r h = and_from (ltb (variable m) (variable l) && true) true (and_from (ltb (variable m) (variable l)) true (lt-ltb (variable m) (variable l) h) refl) refl
-rising_snoc (m ∷ n ∷ C) l r h =
-    let p = and_parts (every (λ x. ltb (variable m) (variable x)) (n ∷ C)) (rising (n ∷ C)) r in
-    let b = below_last m (n ∷ C) r in
-    and_from (every (λ x. ltb (variable m) (variable x)) ((n ∷ C) ++ (l ∷ []))) (rising ((n ∷ C) ++ (l ∷ [])))
-    (every_push (λ x. ltb (variable m) (variable x)) (n ∷ C) l p.0 (lt-ltb (variable m) (variable l) (omega arith)))
-    (rising_snoc (n ∷ C) l p.1 h)
-
-only_is : (C : List ℕ) (l : ℕ) → only C ≡ Some l → C ≡ l ∷ []
-only_is [] l e = cc
-only_is (m ∷ []) l e = cc
-only_is (m ∷ n ∷ C) l e = cc
-
 pub is_some : (o : Option ℕ) → is_none o ≡ false → (l : ℕ) × (o ≡ Some l)
 is_some None e = absurd (both_ways true e refl)
 is_some (Some l) e = (l, refl)
@@ -108,7 +78,7 @@ pub unit_of : (s : Side) (prefix : List Quantifier) (A C : List ℕ) (l : ℕ) �
 unit_of s prefix A C l u = go (some (λ m. has A (implied s m)) C) u
   where
     go : (b : Bool) → cond b None (only (reduce s prefix (unset A C))) ≡ Some l → (has C l ≡ true) × (is_set A (variable l) ≡ false)
-    go true q = absurd (let z : ◌≡◌ {A = ℕ} 0 1 = cc in omega arith)
+    go true q = absurd (none-some l q)
     go false q =
         let e = only_is (reduce s prefix (unset A C)) l q in
         let i = subst (λ L. has L l ≡ true) (sym e) (has_head l []) in
@@ -124,19 +94,13 @@ derived_more S (resolving p o h k a c d) = resolving p o h k a (derived_more S c
 
 -- picked additions
 pub picked_snoc : (p : Addition → Bool) (xs : List Addition) (a : Addition) → picked p (xs ++ (a ∷ [])) ≡ cond (p a) (picked p xs ++ (a.codes ∷ [])) (picked p xs)
-picked_snoc p [] a = go (p a)
+picked_snoc p xs a =
+    ap (map (λ x. x.codes)) (filter-append p xs (a ∷ []))
+    ∙ map-append (λ x. x.codes) (filter p xs) (filter p (a ∷ [])) ∙ go (p a)
   where
-    go : (b : Bool) → map (λ x. x.codes) (cond b (a ∷ []) []) ≡ cond b (a.codes ∷ []) []
+    go : (b : Bool) → picked p xs ++ map (λ x. x.codes) (cond b (a ∷ []) []) ≡ cond b (picked p xs ++ (a.codes ∷ [])) (picked p xs)
     go true = refl
-    go false = refl
-picked_snoc p (x ∷ xs) a = go (p x) (p a) (picked_snoc p xs a)
-  where
-    go : (b c : Bool) → picked p (xs ++ (a ∷ [])) ≡ cond c (picked p xs ++ (a.codes ∷ [])) (picked p xs)
-        → map (λ x. x.codes) (cond b (x ∷ filter p (xs ++ (a ∷ []))) (filter p (xs ++ (a ∷ []))))
-        ≡ cond c (map (λ x. x.codes) (cond b (x ∷ filter p xs) (filter p xs)) ++ (a.codes ∷ [])) (map (λ x. x.codes) (cond b (x ∷ filter p xs) (filter p xs)))
-    go true true e = ap (λ L. x.codes ∷ L) e
-    go true false e = ap (λ L. x.codes ∷ L) e
-    go false c e = e
+    go false = append-nil (picked p xs)
 
 -- Why an implied literal stands: a constraint of its side that is unit under what stood before.
 pub record Why (prefix : List Quantifier) (T : Side → List (List ℕ)) (A : List ℕ) (p : ℕ) (s : Side) : Type 0 where
@@ -172,7 +136,7 @@ count_le A (suc v) = go (is_set A (suc v)) (count_le A v)
     go true h = omega arith
     go false h = omega arith
 
-is_set_snoc : (A : List ℕ) (x w : ℕ) → is_set (A ++ (x ∷ [])) w ≡ is_set (x ∷ A) w
+pub is_set_snoc : (A : List ℕ) (x w : ℕ) → is_set (A ++ (x ∷ [])) w ≡ is_set (x ∷ A) w
 is_set_snoc A x w = ap₂ ◌||◌ (has_snoc A x (setting w true)) (has_snoc A x (setting w false))
 
 count_other : (A : List ℕ) (x n : ℕ) → n < variable x → count (A ++ (x ∷ [])) n ≡ count A n
@@ -205,7 +169,7 @@ module _ (prefix : List Quantifier) (T : Side → List (List ℕ)) where
   pub stands_snoc : (A : List ℕ) (t : List Entry) (e : Entry) → Stands prefix T A t → Reason prefix T (A ++ literals t) e
       → Open prefix (A ++ literals t) (literal_of e) → Stands prefix T A (t ++ (e ∷ []))
   stands_snoc A [] e h r u =
-      let n = append_none A in
+      let n = append-nil A in
       let u' = subst (λ B. Open prefix B (literal_of e)) n u in
       (h, subst (λ B. Reason prefix T B e) n r, u', consistent_snoc A (literal_of e) h u'.0)
   stands_snoc A (d ∷ t) e h r u =
@@ -220,7 +184,7 @@ module _ (prefix : List Quantifier) (T : Side → List (List ℕ)) where
 
   pub stands_at : (A : List ℕ) (before after : List Entry) (p : ℕ) (s : Side) (n : ℕ) → Stands prefix T A (before ++ (implication p s n ∷ after))
       → Consistent (A ++ literals before) × Why prefix T (A ++ literals before) p s
-  stands_at A [] after p s n h = let e = sym (append_none A) in (subst Consistent e h.0, subst (λ B. Why prefix T B p s) e h.1)
+  stands_at A [] after p s n h = let e = sym (append-nil A) in (subst Consistent e h.0, subst (λ B. Why prefix T B p s) e h.1)
   stands_at A (d ∷ before) after p s n h =
       let e = append_assoc A (literal_of d ∷ []) (literals before) in
       let r = stands_at (A ++ (literal_of d ∷ [])) before after p s n h.3 in

@@ -1,5 +1,5 @@
 -- Blocks by the number of changes are the runs of one quantifier. Assumes nothing.
-use Rattle.std.proofs.Common.{◌≡◌, ℕ, zero, suc, ◌<◌, ◌≤◌, Bool, true, false, cond, List, [], ◌∷◌, length, get_or, take, sym, refl, ap, ◌∙◌, subst, ⊎_elim, arith}
+use Rattle.std.proofs.Common.{◌≡◌, ℕ, zero, suc, ◌<◌, ◌≤◌, Bool, true, false, cond, List, [], ◌∷◌, length, get_or, take, sym, refl, ap, ◌∙◌, ⊎_elim, arith}
 use Rattle.std.proofs.lemmas.Bool.{both_ways, cases_eq}
 use Rattle.qbf.specs.declared.quantifier.Quantifier.{Quantifier}
 use Rattle.qbf.specs.declared.quantifier.Quantifier.TheVariants.{Existential, Universal}
@@ -38,14 +38,9 @@ differ_not Universal = refl
 module _ (prefix : List Quantifier) (w : ℕ) (low : 1 ≤ w) where
   pub mono : (v : ℕ) → w ≤ v → v ≤ length prefix → block prefix w ≤ block prefix v
   mono zero a b = absurd (omega arith)
-  mono (suc v) a b = ⊎_elim (λ (e : w ≡ suc v). subst (λ x. block prefix w ≤ block prefix x) e (omega arith)) (λ (d : w ≡ suc v → ⊥). step (mono v (omega arith) (omega arith)) (omega arith)) (cases_eq w (suc v))
-    where
-      step : block prefix w ≤ block prefix v → 1 ≤ v → block prefix w ≤ block prefix (suc v)
-      step i c = subst (λ x. block prefix w ≤ x) (sym (block_step prefix v c (omega arith))) (go (differ (quantifier_of prefix v) (quantifier_of prefix (suc v))))
-        where
-          go : (b : Bool) → block prefix w ≤ cond b (suc (block prefix v)) (block prefix v)
-          go true = omega arith
-          go false = i
+  mono (suc v) a b =
+      let here : w ≡ suc v → block prefix w ≡ block prefix (suc v) = ap (block prefix) in
+      grind (arith, here, block_step prefix v, mono v)
 
   one_run : (v : ℕ) → w ≤ v → v ≤ length prefix → block prefix w ≡ block prefix v → (u : ℕ) → w ≤ u → u ≤ v → quantifier_of prefix u ≡ quantifier_of prefix w
   one_run zero a b e u c d = absurd (omega arith)
@@ -63,13 +58,7 @@ module _ (prefix : List Quantifier) (w : ℕ) (low : 1 ≤ w) where
 
   one_block : (v : ℕ) → w ≤ v → v ≤ length prefix → ((u : ℕ) → w ≤ u → u ≤ v → quantifier_of prefix u ≡ quantifier_of prefix w) → block prefix w ≡ block prefix v
   one_block zero a b f = absurd (omega arith)
-  one_block (suc v) a b f = ⊎_elim (λ (q : w ≡ suc v). ap (block prefix) q) (λ (q : w ≡ suc v → ⊥). more (omega arith) (one_block v (omega arith) (omega arith) (λ u c d. f u c (omega arith)))) (cases_eq w (suc v))
-    where
-      more : w ≤ v → block prefix w ≡ block prefix v → block prefix w ≡ block prefix (suc v)
-      more c i =
-          let p : quantifier_of prefix v ≡ quantifier_of prefix (suc v) = f v c (omega arith) ∙ sym (f (suc v) a (omega arith)) in
-          let d : differ (quantifier_of prefix v) (quantifier_of prefix (suc v)) ≡ false = subst (λ x. differ (quantifier_of prefix v) x ≡ false) p (differ_not (quantifier_of prefix v)) in
-          i ∙ sym (block_step prefix v (omega arith) (omega arith) ∙ ap (λ x. cond x (suc (block prefix v)) (block prefix v)) d)
+  one_block (suc v) a b f = grind (arith, block_step prefix v, one_block v, differ_not, f v, f (suc v))
 
 pub blocks : Blocks
 blocks prefix w v a b c = (λ e. one_run prefix w a v b c e, λ f. one_block prefix w a v b c f)

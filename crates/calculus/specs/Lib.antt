@@ -1,3 +1,4 @@
+pub mod Answers
 pub mod Verdicts
 pub mod Blocks
 pub mod State

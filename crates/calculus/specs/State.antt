@@ -1,6 +1,6 @@
 -- A session: what it holds, the grounds on which each call is refused, and what each call makes of the session.
 -- Literals are codes and constraints lists of codes; variables and constraints are numbered from 1. Assumes nothing.
-use Rattle.std.specs.Prelude.{ℕ, zero, suc, Bool, true, false, cond, not, ◌&&◌, ◌||◌, List, [], ◌∷◌, ◌++◌, map, length, Some, None, Option, ◌==◌, nat_le}
+use Rattle.std.specs.Prelude.{ℕ, zero, suc, Bool, true, false, cond, not, ◌&&◌, ◌||◌, List, [], ◌∷◌, ◌++◌, map, length, is_none, Some, None, Ok, Err, Option, Result, ◌==◌, nat_le}
 use Rattle.qbf.specs.declared.quantifier.Quantifier.{Quantifier}
 use Rattle.qbf.specs.declared.side.Side.{Side}
 use Rattle.qbf.specs.declared.side.Side.TheVariants.{Clause, Cube}
@@ -8,6 +8,7 @@ use Rattle.qbf.specs.Qbf.{variable, complement, setting, quantifier_of, has, som
 use Rattle.qbf.specs.Constraints.{last_variable}
 use Rattle.faults.specs.declared.refusal.Refusal.{Refusal}
 use Rattle.faults.specs.declared.refusal.Refusal.TheVariants.{WrongStage, TooManyVariables, UnnamedVariable, VariableNotAbove, LiteralsWaiting, NoSuchConstraint, VariableSet, EarlierBlockUnset, ImpliesNothing, KeepsEveryDecision, NotOwnQuantifier, NoClash, SecondClash, Full, NoEmptyConstraint}
+use Rattle.database.specs.Codes.{codes_at}
 use Rattle.database.specs.Meaning.{Meaning, emptied, added, numbered}
 use Rattle.calculus.specs.declared.answer.Answer.{Answer}
 use Rattle.calculus.specs.declared.answer.Answer.TheVariants.{Taken, Stored, Refused}
@@ -56,17 +57,9 @@ database s σ = of_side s σ.clauses σ.cubes
 
 -- NOTIONS.
 
-abbrev pub is_none : {X : Type 0} → Option X → Bool
-is_none None = true
-is_none (Some x) = false
-
-abbrev pub or_empty : Option (List ℕ) → List ℕ
-or_empty None = []
-or_empty (Some C) = C
-
 -- the constraint of a number, the empty one where there is none
 abbrev pub constraint : List (List ℕ) → ℕ → List ℕ
-constraint T n = or_empty (numbered T n)
+constraint T n = codes_at T n
 
 abbrev pub is_empty : List ℕ → Bool
 is_empty [] = true
@@ -113,33 +106,27 @@ derivation_side Working = Clause
 derivation_side (Derivation s) = s
 derivation_side (Closed v) = Clause
 
--- REFUSALS. The stages are counted, and each call has the one at which it is allowed.
-
-abbrev pub stage_number : Stage → ℕ
-stage_number Naming = 0
-stage_number Loading = 1
-stage_number Working = 2
-stage_number (Derivation s) = 3
-stage_number (Closed v) = 4
-
-abbrev pub stage_of : Call → ℕ
-stage_of (Name q) = 0
-stage_of EndNaming = 0
-stage_of (Put l) = 1
-stage_of (Load s) = 1
-stage_of EndLoading = 1
-stage_of (Imply s n) = 2
-stage_of (Decide l) = 2
-stage_of (Undo k) = 2
-stage_of (Begin s n) = 2
-stage_of (Resolve n v) = 3
-stage_of Reduce = 3
-stage_of Store = 3
-stage_of Abandon = 3
-stage_of (Close v) = 2
-
+-- REFUSALS. Each stage allows its own calls, and a closed session none.
 abbrev pub allows : Stage → Call → Bool
-allows g c = stage_number g == stage_of c
+allows Naming (Name q) = true
+allows Naming EndNaming = true
+allows Loading (Put l) = true
+allows Loading (Load s) = true
+allows Loading EndLoading = true
+allows Working (Imply s n) = true
+allows Working (Decide l) = true
+allows Working (Undo k) = true
+allows Working (Begin s n) = true
+allows Working (Close v) = true
+allows (Derivation s) (Resolve n v) = true
+allows (Derivation s) Reduce = true
+allows (Derivation s) Store = true
+allows (Derivation s) Abandon = true
+allows g c = false
+
+-- A call that the stage allows may pass, another is refused for its stage.
+abbrev pub admission : Stage → Call → Result (Unit {0}) Refusal
+admission g c = cond (allows g c) (Ok tt) (Err WrongStage)
 
 -- A ground: whether it holds, and the refusal that it is for.
 abbrev pub Ground : Type 0

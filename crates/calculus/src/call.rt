@@ -1,8 +1,4 @@
 //! The calls of a session, as values.
-ghost use Rattle.calculus.specs.History.{AnyCalls, Prefixes};
-ghost use Rattle.calculus.specs.State.{stage_of};
-ghost use Rattle.std.specs.Prelude.{◌≡◌};
-
 use crate::verdict::Verdict;
 use qbf::quantifier::Quantifier;
 use qbf::side::Side;
@@ -34,25 +30,4 @@ pub enum Call {
     /// Ends the derivation and forgets it.
     Abandon,
     Close(Verdict),
-}
-
-impl Call {
-    /// The number of the stage at which the call is allowed.
-    /// Any calls make a history, and what came before a call of a history is one too.
-    pub fn stage_number(self) -> u8
-        ensures value { result ≡ stage_of self }
-        ensures any_calls { AnyCalls }
-        ensures prefixes { Prefixes }
-    {
-        match self {
-            Call::Name(_) | Call::EndNaming => 0,
-            Call::Put(_) | Call::Load(_) | Call::EndLoading => 1,
-            Call::Imply(_, _)
-            | Call::Decide(_)
-            | Call::Undo(_)
-            | Call::Begin(_, _)
-            | Call::Close(_) => 2,
-            Call::Resolve(_, _) | Call::Reduce | Call::Store | Call::Abandon => 3,
-        }
-    }
 }

@@ -1,9 +1,10 @@
 //! The stages of a session.
-ghost use Rattle.calculus.specs.State.{allows as is_allowed, derivation_side, stage_number};
+ghost use Rattle.calculus.specs.State.{admission, allows as is_allowed, derivation_side};
 ghost use Rattle.std.specs.Prelude.{◌≡◌};
 
 use crate::call::Call;
 use crate::verdict::Verdict;
+use faults::refusal::Refusal;
 use qbf::side::Side;
 
 /// Each stage allows only its own calls. A derivation has its side, a closed session its verdict.
@@ -17,24 +18,41 @@ pub enum Stage {
 }
 
 impl Stage {
-    /// The stages counted, from 0.
-    pub fn number(self) -> u8
-        ensures { result ≡ stage_number self }
-    {
-        match self {
-            Stage::Naming => 0,
-            Stage::Loading => 1,
-            Stage::Working => 2,
-            Stage::Derivation(_) => 3,
-            Stage::Closed(_) => 4,
-        }
-    }
-
     /// Whether the stage allows the call.
     pub fn allows(self, call: Call) -> bool
         ensures { result ≡ is_allowed self call }
     {
-        self.number() == call.stage_number()
+        matches!(
+            (self, call),
+            (Stage::Naming, Call::Name(_) | Call::EndNaming)
+                | (
+                    Stage::Loading,
+                    Call::Put(_) | Call::Load(_) | Call::EndLoading
+                )
+                | (
+                    Stage::Working,
+                    Call::Imply(_, _)
+                        | Call::Decide(_)
+                        | Call::Undo(_)
+                        | Call::Begin(_, _)
+                        | Call::Close(_)
+                )
+                | (
+                    Stage::Derivation(_),
+                    Call::Resolve(_, _) | Call::Reduce | Call::Store | Call::Abandon
+                )
+        )
+    }
+
+    /// Lets a call pass that the stage allows, and refuses another for its stage.
+    pub fn admit(self, call: Call) -> Result<(), Refusal>
+        ensures { result ≡ admission self call }
+    {
+        if self.allows(call) {
+            Ok(())
+        } else {
+            Err(Refusal::WrongStage)
+        }
     }
 
     /// The side of a derivation; the clauses' where there is none.

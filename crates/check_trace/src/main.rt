@@ -32,14 +32,16 @@ fn check_complemented<C: Database + Drop, D: Database + Drop>(
 ) -> Result<Checked<C, D>, AllocError>
     ensures { IfOk result (λ k. Checks (C.Database.meaning clauses) (complemented_meaning (D.Database.meaning cubes)) trace.now k.answer (C.Database.meaning k.clauses) (complemented_meaning (D.Database.meaning k.cubes))) }
 {
-    match check(heap, clauses, ComplementedDatabase::new(cubes), trace) {
-        Ok(checked) => Ok(Checked {
-            answer: checked.answer,
-            clauses: checked.clauses,
-            cubes: checked.cubes.into_below(),
-        }),
-        Err(_) => Err(AllocError),
-    }
+    let Checked {
+        answer,
+        clauses,
+        cubes,
+    } = check(heap, clauses, ComplementedDatabase::new(cubes), trace)?;
+    Ok(Checked {
+        answer,
+        clauses,
+        cubes: cubes.into_below(),
+    })
 }
 
 /// The answer to a trace, with the cubes kept complemented.
@@ -52,8 +54,7 @@ fn answer_over<C: Database + Drop, D: Database + Drop>(
     ensures value { IfOk result (λ a. a ≡ (ran (opening (C.Database.meaning clauses) (complemented_meaning (D.Database.meaning cubes))) trace.now).answer) }
     ensures answers { IfOk result (Answers (opening (C.Database.meaning clauses) (complemented_meaning (D.Database.meaning cubes))) trace.now) }
 {
-    let checked = check_complemented(heap, clauses, cubes, trace)?;
-    Ok(checked.answer)
+    Ok(check_complemented(heap, clauses, cubes, trace)?.answer)
 }
 
 /// The answer to a trace, with the clauses as lists of codes in 16,384 cells and the cubes as rows of bits in 4,096 words.

@@ -3,9 +3,8 @@ use Rattle.std.proofs.Common.{◌≡◌, ℕ, zero, suc, ◌+◌, ◌-◌, ◌<�
 use Rattle.std.specs.List.{range_with_len}
 use Rattle.std.proofs.lemmas.List.FromFn.{length-map-range_with_len, get_or-map-range_with_len}
 use Rattle.qbf.specs.Qbf.{In}
-use Rattle.qbf.specs.Constraints.{code_at as placed}
-use Rattle.database.specs.Meaning.{length_at, code_at}
-use Rattle.database.proofs.Numbers.{length_there, length_none, code_of, no_number}
+use Rattle.database.specs.Meaning.{numbered}
+use Rattle.database.proofs.Numbers.{numbered_there, numbered_none}
 
 in_counted : (P : List ℕ → Type 0) (f : ℕ → List ℕ) (a n : ℕ) → ((k : ℕ) → a ≤ k → k < a + n → P (f k)) → (C : List ℕ) → In C (map f (range_with_len a n)) → P C
 in_counted P f a zero h C i = absurd i
@@ -30,18 +29,11 @@ module _ (f : ℕ → List ℕ) (n number : ℕ) where
   beyond : (number ≡ 0) ⊎ (n < number) → (number ≡ 0) ⊎ (length (map f (range_with_len 0 n)) < number)
   beyond h = let l = length-map-range_with_len f 0 n in ⊎_elim (λ e. inl e) (λ p. inr (omega arith)) h
 
-  pub length_counted : 1 ≤ number → number ≤ n → length_at (map f (range_with_len 0 n)) number ≡ Some (length (f (number - 1)))
-  length_counted a b =
+  pub numbered_counted : (i : ℕ) → i + 1 ≡ number → i < n → numbered (map f (range_with_len 0 n)) number ≡ Some (f i)
+  numbered_counted i e h =
       let l = length-map-range_with_len f 0 n in
-      length_there (map f (range_with_len 0 n)) number a (omega arith) ∙ ap (λ (C : List ℕ). Some (length C)) (at_number a b)
+      let k : number - 1 ≡ i = omega arith in
+      numbered_there (map f (range_with_len 0 n)) number (omega arith) (omega arith) ∙ ap Some (at_number (omega arith) (omega arith) ∙ ap f k)
 
-  pub length_not_counted : (number ≡ 0) ⊎ (n < number) → length_at (map f (range_with_len 0 n)) number ≡ None
-  length_not_counted h = length_none (map f (range_with_len 0 n)) number (beyond h)
-
-  pub code_counted : (place : ℕ) → 1 ≤ number → number ≤ n → code_at (map f (range_with_len 0 n)) number place ≡ placed (f (number - 1)) place
-  code_counted place a b =
-      let l = length-map-range_with_len f 0 n in
-      code_of (map f (range_with_len 0 n)) number place a (omega arith) ∙ ap (λ (C : List ℕ). placed C place) (at_number a b)
-
-  pub code_not_counted : (place : ℕ) → (number ≡ 0) ⊎ (n < number) → code_at (map f (range_with_len 0 n)) number place ≡ None
-  code_not_counted place h = no_number (map f (range_with_len 0 n)) number place (beyond h)
+  pub numbered_not_counted : (number ≡ 0) ⊎ (n < number) → numbered (map f (range_with_len 0 n)) number ≡ None
+  numbered_not_counted h = numbered_none (map f (range_with_len 0 n)) number (beyond h)

@@ -1,25 +1,15 @@
 -- What the answers by number and place are, where there is one and where there is none. Assumes nothing.
-use Rattle.std.proofs.Common.{◌≡◌, ℕ, ◌-◌, ◌<◌, ◌≤◌, ◌&&◌, leb, ◌⊎◌, List, [], length, get_or, Some, None, Option, ap}
+use Rattle.std.proofs.Common.{◌≡◌, ℕ, ◌-◌, ◌<◌, ◌≤◌, ◌&&◌, leb, ◌⊎◌, List, [], length, get_or, Some, None, ap}
 use Rattle.std.specs.Option.{option_map}
 use Rattle.std.proofs.lemmas.Bool.{cond-true, cond-false}
-use Rattle.qbf.specs.Constraints.{code_at as placed}
 use Rattle.qbf.proofs.Places.{there, not_there}
-use Rattle.database.specs.Meaning.{numbered, length_at, placed_in, code_at}
+use Rattle.database.specs.Meaning.{numbered, length_at}
 
-numbered_there : (T : List (List ℕ)) (n : ℕ) → 1 ≤ n → n ≤ length T → numbered T n ≡ Some (get_or T (n - 1) [])
+pub numbered_there : (T : List (List ℕ)) (n : ℕ) → 1 ≤ n → n ≤ length T → numbered T n ≡ Some (get_or T (n - 1) [])
 numbered_there T n a b = cond-true (leb 1 n && leb n (length T)) (Some (get_or T (n - 1) [])) None (there n (length T) a b)
 
-numbered_none : (T : List (List ℕ)) (n : ℕ) → (n ≡ 0) ⊎ (length T < n) → numbered T n ≡ None
+pub numbered_none : (T : List (List ℕ)) (n : ℕ) → (n ≡ 0) ⊎ (length T < n) → numbered T n ≡ None
 numbered_none T n h = cond-false (leb 1 n && leb n (length T)) (Some (get_or T (n - 1) [])) None (not_there n (length T) h)
 
 pub length_there : (T : List (List ℕ)) (n : ℕ) → 1 ≤ n → n ≤ length T → length_at T n ≡ Some (length (get_or T (n - 1) []))
 length_there T n a b = ap (option_map length) (numbered_there T n a b)
-
-pub length_none : (T : List (List ℕ)) (n : ℕ) → (n ≡ 0) ⊎ (length T < n) → length_at T n ≡ None
-length_none T n h = ap (option_map length) (numbered_none T n h)
-
-pub code_of : (T : List (List ℕ)) (n p : ℕ) → 1 ≤ n → n ≤ length T → code_at T n p ≡ placed (get_or T (n - 1) []) p
-code_of T n p a b = ap (λ (o : Option (List ℕ)). placed_in o p) (numbered_there T n a b)
-
-pub no_number : (T : List (List ℕ)) (n p : ℕ) → (n ≡ 0) ⊎ (length T < n) → code_at T n p ≡ None
-no_number T n p h = ap (λ (o : Option (List ℕ)). placed_in o p) (numbered_none T n h)

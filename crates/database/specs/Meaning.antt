@@ -1,6 +1,7 @@
 -- What a constraint database means, and what its calls do to that. Assumes nothing.
-use Rattle.std.specs.Prelude.{◌≡◌, ℕ, ◌-◌, ◌^◌, ◌<◌, ◌≤◌, Bool, true, cond, ◌&&◌, List, [], ◌∷◌, ◌++◌, length, Some, None, Option, nat_le, slice_index_or}
+use Rattle.std.specs.Prelude.{◌≡◌, ℕ, ◌-◌, ◌^◌, ◌<◌, ◌≤◌, true, cond, ◌&&◌, List, [], ◌∷◌, ◌++◌, length, is_ok, Some, None, Ok, Err, Option, Result, nat_le, slice_index_or}
 use Rattle.std.specs.Option.{option_map}
+use Rattle.database.specs.declared.database.Full.{Full}
 use Rattle.qbf.specs.Qbf.{In, formed as is_formed}
 use Rattle.qbf.specs.Constraints.{code_at as placed}
 
@@ -26,9 +27,9 @@ abbrev pub added : Meaning → List ℕ → Meaning
 added m C = record { list = m.list ++ (C ∷ []); cells = m.cells; left = m.left - m.cost (length C); cost = m.cost }
 
 -- Adding is refused as full exactly if the cells left are below the cost of the length, and then nothing changes.
-pub record Adds (m : Meaning) (C : List ℕ) (taken : Bool) (n : Meaning) : Type 0 where
-  pub answers : taken ≡ nat_le (m.cost (length C)) m.left
-  pub after : n ≡ cond taken (added m C) m
+pub record Adds (m : Meaning) (C : List ℕ) (answer : Result (Unit {0}) Full) (n : Meaning) : Type 0 where
+  pub answers : answer ≡ cond (nat_le (m.cost (length C)) m.left) (Ok tt) (Err (record {}))
+  pub after : n ≡ cond (is_ok answer) (added m C) m
 
 -- The constraint of a number, counted from 1.
 abbrev pub numbered : List (List ℕ) → ℕ → Option (List ℕ)

@@ -2,7 +2,7 @@
 ghost use Rattle.database.specs.Complemented.{TwoLayers, complemented_lawful, complemented_meaning};
 ghost use Rattle.std.specs.Prelude.{◌≡◌};
 
-use super::database::Database;
+use super::database::{Database, Full};
 use qbf::literal::complement;
 use qbf::view::ConstraintView;
 
@@ -39,7 +39,7 @@ impl<D: Database> Database for ComplementedDatabase<D> {
         self.below.empty();
     }
 
-    fn add(&mut self, constraint: ConstraintView<'_>) -> bool {
+    fn add(&mut self, constraint: ConstraintView<'_>) -> Result<(), Full> {
         self.below.add(constraint.complement())
     }
 
@@ -52,10 +52,7 @@ impl<D: Database> Database for ComplementedDatabase<D> {
     }
 
     fn code(&self, number: u64, place: u32) -> Option<u16> {
-        match self.below.code(number, place) {
-            Some(code) => Some(complement(code)),
-            None => None,
-        }
+        self.below.code(number, place).map(complement)
     }
 
     fn cells_left(&self) -> u32 {

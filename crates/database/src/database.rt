@@ -1,9 +1,13 @@
 //! A constraint database: a list of constraints, in cells of which each constraint costs some.
 ghost use Rattle.database.specs.Meaning.{Adds, Lawful, Meaning, code_at, cost_at, emptied, length_at};
 ghost use Rattle.qbf.specs.Views.{viewed};
-ghost use Rattle.std.specs.Prelude.{◌≡◌, false, length as the_length};
+ghost use Rattle.std.specs.Prelude.{◌≡◌, false, is_ok, length as the_length};
 
 use qbf::view::ConstraintView;
+
+/// Too few cells are left.
+#[derive(Clone, Copy)]
+pub struct Full;
 
 /// Constraints by number. Numbers and places count from 1, and what is not there is answered by none.
 pub trait Database {
@@ -17,10 +21,10 @@ pub trait Database {
     fn empty(&mut self)
         ensures { meaning self.new ≡ emptied (meaning self.old) };
 
-    /// Adds a constraint at the end of the list; false where the cells left are too few, and then nothing at all changes.
-    fn add(&mut self, constraint: ConstraintView<'_>) -> bool
+    /// Adds a constraint at the end of the list; `Full` where the cells left are too few, and then nothing at all changes.
+    fn add(&mut self, constraint: ConstraintView<'_>) -> Result<(), Full>
         ensures adds { Adds (meaning self.old) (viewed constraint.entry) result (meaning self.new) }
-        ensures refused { result ≡ false → self.new ≡ self.old };
+        ensures refused { is_ok result ≡ false → self.new ≡ self.old };
 
     /// How many constraints there are.
     fn count(&self) -> u64

@@ -1,37 +1,42 @@
 //! Runs the three constraint databases on small cases, and prints what each does, a line for each case.
 #![tactic(auto)]
 
+ghost use Rattle.std.specs.Iterator.{IsFinite};
+
 use anyhow::anyhow;
 use bitset_database::bitset::BitsetDatabase;
+use database::codes::Codes;
 use database::complemented::ComplementedDatabase;
 use database::database::Database;
 use list_database::list::ListDatabase;
 use qbf::constraint::Constraint;
 use qbf::view::ConstraintView;
 use std::alloc::Global;
-use std::io;
+use std::{fmt, io};
 
 /// A constraint of some codes.
 fn constraint(heap: Global, codes: &[u16]) -> anyhow::Result<Constraint> {
     let mut made = Constraint::new(heap)?;
     for &code in codes {
-        if made.push(code).is_err() {
-            return Err(anyhow!("a code that cannot follow"));
-        }
+        made.push(code)
+            .map_err(|_| anyhow!("a code that cannot follow"))?;
     }
     Ok(made)
 }
 
-/// Prints the codes of a constraint, as {2,4}.
-fn print_codes(rt: &HostRuntime, codes: ConstraintView<'_>) -> io::Result<()> {
+/// Prints codes, as {2,4}.
+fn print_codes<I: Iterator<Item = u16> + Drop>(rt: &HostRuntime, codes: I) -> io::Result<()>
+    requires can { I.can_next codes }
+    requires ends { IsFinite (I.remaining codes) }
+{
     print!(rt; "{{")?;
-    for i in 0..codes.len() {
-        if i > 0 {
+    let mut more = false;
+    for code in codes {
+        if more {
             print!(rt; ",")?;
         }
-        if let Some(code) = codes.code(i + 1) {
-            print!(rt; "{code}")?;
-        }
+        print!(rt; "{code}")?;
+        more = true;
     }
     print!(rt; "}}")
 }
@@ -44,25 +49,21 @@ fn add<D: Database>(
     codes: ConstraintView<'_>,
 ) -> io::Result<()> {
     print!(rt; "{name}: add ")?;
-    print_codes(rt, codes)?;
-    let answer = if db.add(codes) { "taken" } else { "refused" };
+    print_codes(rt, codes.codes())?;
+    let answer = if db.add(codes).is_ok() {
+        "taken"
+    } else {
+        "refused"
+    };
     let left = db.cells_left();
     println!(rt; ": {answer}, {left} cells left")
 }
 
 /// Prints the codes of the constraint with a number, read from a database.
 fn show<D: Database>(rt: &HostRuntime, name: &str, db: &D, number: u64) -> io::Result<()> {
-    print!(rt; "{name}: constraint {number} is {{")?;
-    let size = db.length(number).unwrap_or(0);
-    for i in 0..size {
-        if i > 0 {
-            print!(rt; ",")?;
-        }
-        if let Some(code) = db.code(number, i + 1) {
-            print!(rt; "{code}")?;
-        }
-    }
-    println!(rt; "}}")
+    print!(rt; "{name}: constraint {number} is ")?;
+    print_codes(rt, Codes::of(db, number))?;
+    println!(rt;)
 }
 
 /// Prints how many constraints there are, and the cells that are left.
@@ -72,12 +73,23 @@ fn sizes<D: Database>(rt: &HostRuntime, name: &str, db: &D) -> io::Result<()> {
     println!(rt; "{name}: count {count}, {left} cells left")
 }
 
+/// What a database answers, or that it has none.
+#[derive(Drop)]
+struct OrNone<T>(Option<T>);
+
+impl<T: fmt::Display> fmt::Display for OrNone<T> {
+    fn fmt<W: fmt::Write>(&self, f: &mut fmt::Formatter<W>) -> fmt::Result {
+        match &self.0 {
+            Some(value) => write!(f, "{value}"),
+            None => write!(f, "none"),
+        }
+    }
+}
+
 /// Prints the length of the constraint with a number.
 fn length<D: Database>(rt: &HostRuntime, name: &str, db: &D, number: u64) -> io::Result<()> {
-    match db.length(number) {
-        Some(size) => println!(rt; "{name}: length({number}) = {size}"),
-        None => println!(rt; "{name}: length({number}) = none"),
-    }
+    let size = OrNone(db.length(number));
+    println!(rt; "{name}: length({number}) = {size}")
 }
 
 /// Prints the code at a place of the constraint with a number.
@@ -88,18 +100,14 @@ fn code<D: Database>(
     number: u64,
     place: u32,
 ) -> io::Result<()> {
-    match db.code(number, place) {
-        Some(code) => println!(rt; "{name}: code({number}, {place}) = {code}"),
-        None => println!(rt; "{name}: code({number}, {place}) = none"),
-    }
+    let code = OrNone(db.code(number, place));
+    println!(rt; "{name}: code({number}, {place}) = {code}")
 }
 
 /// Prints what a constraint of a length costs.
 fn cost<D: Database>(rt: &HostRuntime, name: &str, db: &D, size: u32) -> io::Result<()> {
-    match db.cost(size) {
-        Some(cells) => println!(rt; "{name}: cost({size}) = {cells}"),
-        None => println!(rt; "{name}: cost({size}) = none"),
-    }
+    let cells = OrNone(db.cost(size));
+    println!(rt; "{name}: cost({size}) = {cells}")
 }
 
 /// Adds a constraint and then the empty one.

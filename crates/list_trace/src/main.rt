@@ -10,15 +10,14 @@ use trace::reader::Reader;
 /// Prints a line for each record as it is read, and then the last line.
 fn list(rt: &HostRuntime, trace: &[u8]) -> io::Result<()> {
     let mut reader = Reader::new(trace);
-    'records: loop {
-        let byte = reader.place();
-        let Some(record) = reader.next() else {
-            let line = last_line(rt.alloc(), reader.outcome())?;
-            return println!(rt; "{line}");
-        };
+    let mut byte = reader.place();
+    while let Some(record) = reader.next() {
         let line = record_line(rt.alloc(), reader.records(), byte, record)?;
         println!(rt; "{line}")?;
+        byte = reader.place();
     }
+    let line = last_line(rt.alloc(), reader.outcome())?;
+    println!(rt; "{line}")
 }
 
 fn main(rt: HostRuntime) -> io::Result<()> {

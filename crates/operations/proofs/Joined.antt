@@ -1,10 +1,11 @@
 -- Two rising constraints by what comes first in them: whether they clash, and what resolving makes. Assumes nothing.
-use Rattle.std.proofs.Common.{◌≡◌, ℕ, ◌<◌, ◌≤◌, Bool, true, false, cond, not, ◌&&◌, ◌||◌, eqb, ltb, ◌⊎◌, List, [], ◌∷◌, ◌++◌, sym, refl, ap, ◌∙◌, ap₂, inl, inr, ⊎_elim, arith}
+use Rattle.std.proofs.Common.{◌≡◌, ℕ, ◌<◌, ◌≤◌, Bool, true, false, cond, not, ◌&&◌, ◌||◌, eqb, ltb, ◌⊎◌, List, [], ◌∷◌, ◌++◌, slice_get, sym, refl, ap, ◌∙◌, ap₂, inl, inr, ⊎_elim, arith}
 use Rattle.std.proofs.lemmas.Bool.{and_parts, and_from, or_cases, or_left, or_right, both_ways, cases_Bool, cond-true, cond-false, lt-ltb, le-ltb, eq-eqb, ne_eqb, eqb-true}
-use Rattle.qbf.specs.Qbf.{variable, complement, setting, has, some, insert, merge, without, resolve}
+use Rattle.qbf.specs.Qbf.{variable, complement, setting, has, some, rising, insert, merge, without, resolve}
 use Rattle.qbf.proofs.Basics.{complement_variable, setting_variable, has_head, has_tail, keep_has, some_has, some_which, which}
-use Rattle.qbf.proofs.Learned.{has_merge_cases}
+use Rattle.qbf.proofs.Learned.{has_merge_cases, rising_parts}
 use Rattle.calculus.specs.State.{clash}
+use Rattle.operations.specs.Fronts.{Before}
 
 -- tests joined by or
 pub or_more : (a b c : Bool) → ((a || b) || c) ≡ (a || (b || c))
@@ -72,6 +73,12 @@ module _ (C D : List ℕ) (x : ℕ) where
 -- all of D lie above the variable v
 abbrev pub Above : ℕ → List ℕ → Type 0
 Above v D = (m : ℕ) → has D m ≡ true → v < variable m
+
+-- a lesser variable before the first one: all lie above
+pub above_all : (c : ℕ) (Y : List ℕ) → rising Y ≡ true → Before c (slice_get Y 0) → Above (variable c) Y
+above_all c [] r b m h = absurd (both_ways false refl h)
+above_all c (d ∷ Y) r b m h =
+    ⊎_elim (λ e. let z : variable m ≡ variable d = ap variable (eqb-true m d e) in omega arith) (λ e. let z = (rising_parts d Y r).0 m e in omega arith) (or_cases (eqb m d) (has Y m) h)
 
 has_none : (v : ℕ) (D : List ℕ) (m : ℕ) → Above v D → variable m ≤ v → has D m ≡ false
 has_none v D m f h = ⊎_elim (λ (e : has D m ≡ true). absurd (let z = f m e in omega arith)) (λ e. e) (cases_Bool (has D m))

@@ -3,8 +3,8 @@ pub mod Undos
 pub mod ByNumber
 pub mod Trims
 pub mod Units
-pub mod Joined
-pub mod Fronting
-pub mod Passes
-pub mod Looks
 pub mod Earlier
+pub mod Asked
+pub mod Joined
+pub mod Looks
+pub mod Passes

@@ -1,21 +1,19 @@
 -- The pass over two constraints that joins them, step by step. Assumes nothing.
-use Rattle.std.proofs.Common.{◌≡◌, ℕ, ◌+◌, ◌<◌, ◌≤◌, Bool, true, false, cond, not, eqb, leb, List, [], ◌∷◌, ◌++◌, length, drop, Some, None, Ok, Option, sym, refl, ap, ◌∙◌, subst, ⊎_elim, arith}
+use Rattle.std.proofs.Common.{◌≡◌, ℕ, ◌<◌, ◌⊎◌, Bool, true, false, cond, not, eqb, leb, List, [], ◌∷◌, ◌++◌, slice_get, Some, Ok, sym, refl, ap, ◌∙◌, subst, ⊎_elim, arith}
 use Rattle.std.proofs.lemmas.Bool.{and_parts, or_parts, both_ways, eqb-true, cases_Bool, leb-true}
 use Rattle.std.proofs.lemmas.List.{append_assoc, append-nil}
 use Rattle.qbf.specs.Qbf.{In, variable, complement, has, every, is_code, rising, formed, resolve}
-use Rattle.qbf.specs.Constraints.{code_at as placed, last_variable, may_follow}
+use Rattle.qbf.specs.Constraints.{last_variable, may_follow}
 use Rattle.qbf.proofs.Basics.{every_in, has_head, has_tail}
 use Rattle.qbf.proofs.Learned.{rising_parts}
-use Rattle.qbf.proofs.Formed.{length_most}
-use Rattle.database.specs.Meaning.{code_at}
-use Rattle.calculus.specs.State.{constraint, clash, second_clash}
-use Rattle.operations.specs.Clashes.{clash_of, refusal_of}
-use Rattle.operations.specs.Fronts.{Fronts, Before}
-use Rattle.operations.specs.declared.resolve.Front.TheVariants.{End, Left, Right, Both, Opposite}
-use Rattle.operations.proofs.ByNumber.{front, constraint_formed, may_follow_lem}
+use Rattle.database.specs.Codes.{codes_at}
+use Rattle.calculus.specs.State.{constraint, second_clash}
+use Rattle.operations.specs.Fronts.{Steps, Before}
+use Rattle.operations.specs.declared.merge.Front.{Front}
+use Rattle.operations.specs.declared.merge.Front.TheVariants.{Left, Right, Both, Opposite}
+use Rattle.operations.proofs.ByNumber.{constraint_formed, may_follow_lem}
 use Rattle.operations.proofs.Trims.{formed_rising}
-use Rattle.operations.proofs.Joined.{Above, opposed, isnt, kept, opposed_left, opposed_right, opposed_both, opposed_opposite, resolve_left, resolve_right, resolve_both, resolve_opposite}
-use Rattle.operations.proofs.Fronting.{tail, tail_drop, front_is, front_end, front_within, above_all, read}
+use Rattle.operations.proofs.Joined.{Above, above_all, opposed, isnt, kept, opposed_left, opposed_right, opposed_both, opposed_opposite, resolve_left, resolve_right, resolve_both, resolve_opposite}
 
 -- each code of X can be appended
 abbrev Fits : List ℕ → List ℕ → Type 0
@@ -56,7 +54,7 @@ grown : (x : ℕ) (out : List ℕ) (c : ℕ) (R S : List ℕ) → S ≡ kept x c
 grown x out c R S e = append_assoc out (kept x c) R ∙ ap (λ (T : List ℕ). out ++ T) (sym e)
 
 module _ (x : ℕ) (out : List ℕ) (c : ℕ) (X Y Z : List ℕ) where
-  left_at : Pass x out (c ∷ X) Y Z → Before c (front Y) → Pass x (out ++ kept x c) X Y Z
+  left_at : Pass x out (c ∷ X) Y Z → Before c (slice_get Y 0) → Pass x (out ++ kept x c) X Y Z
   left_at s b =
       let r = rising_parts c X s.up_x in
       let f = r.0 in
@@ -70,7 +68,7 @@ module _ (x : ℕ) (out : List ℕ) (c : ℕ) (X Y Z : List ℕ) where
         ends = grown x out c (resolve X Y x) (resolve (c ∷ X) Y x) (resolve_left x c X Y f g) ∙ s.ends;
       }
 
-  right_at : Pass x out X (c ∷ Y) Z → Before c (front X) → Pass x (out ++ kept x c) X Y Z
+  right_at : Pass x out X (c ∷ Y) Z → Before c (slice_get X 0) → Pass x (out ++ kept x c) X Y Z
   right_at s b =
       let r = rising_parts c Y s.up_y in
       let g = r.0 in
@@ -112,33 +110,9 @@ module _ (x : ℕ) (out : List ℕ) (c : ℕ) (X Y Z : List ℕ) where
         ends = ap (λ (T : List ℕ). out ++ T) (sym (resolve_opposite x c X Y e)) ∙ s.ends;
       }
 
--- by what comes first
-module _ (x : ℕ) (out X Y Z : List ℕ) (c : ℕ) where
-  step_left : (out' : List ℕ) → Pass x out X Y Z → Fronts (front X) (front Y) (Left c) → Kept x out c out' → Pass x out' (tail X) Y Z
-  step_left out' s f k =
-      let u = subst (λ (X' : List ℕ). Pass x out X' Y Z) (front_is X c f.0) s in
-      subst (λ (o : List ℕ). Pass x o (tail X) Y Z) (sym (was_kept x out c out' (tail X) u.fit_x k)) (left_at x out c (tail X) Y Z u f.1)
-
-  step_right : (out' : List ℕ) → Pass x out X Y Z → Fronts (front X) (front Y) (Right c) → Kept x out c out' → Pass x out' X (tail Y) Z
-  step_right out' s f k =
-      let u = subst (λ (Y' : List ℕ). Pass x out X Y' Z) (front_is Y c f.0) s in
-      subst (λ (o : List ℕ). Pass x o X (tail Y) Z) (sym (was_kept x out c out' (tail Y) u.fit_y k)) (right_at x out c X (tail Y) Z u f.1)
-
-  step_both : (out' : List ℕ) → Pass x out X Y Z → Fronts (front X) (front Y) (Both c) → Kept x out c out' → Pass x out' (tail X) (tail Y) Z
-  step_both out' s f k =
-      let t = subst (λ (X' : List ℕ). Pass x out X' Y Z) (front_is X c f.0) s in
-      let u = subst (λ (Y' : List ℕ). Pass x out (c ∷ tail X) Y' Z) (front_is Y c f.1) t in
-      subst (λ (o : List ℕ). Pass x o (tail X) (tail Y) Z) (sym (was_kept x out c out' (tail X) u.fit_x k)) (both_at x out c (tail X) (tail Y) Z u)
-
-  step_opposite : Pass x out X Y Z → Fronts (front X) (front Y) (Opposite c) → Pass x out (tail X) (tail Y) Z
-  step_opposite s f =
-      let t = subst (λ (X' : List ℕ). Pass x out X' Y Z) (front_is X c f.0) s in
-      let u = subst (λ (Y' : List ℕ). Pass x out (c ∷ tail X) Y' Z) (front_is Y (complement c) f.1) t in
-      opposite_at x out c (tail X) (tail Y) Z u
-
--- THE LOOP. Where no other variable clashes, the rest of the pass ends with what resolving makes.
-abbrev pub Going : ℕ → List ℕ → List ℕ → List ℕ → ℕ → ℕ → Type 0
-Going x out C D i j = (second_clash C D x ≡ false → Pass x out (drop i C) (drop j D) (resolve C D x)) × (i ≤ length C) × (j ≤ length D) × (length D ≤ 512)
+-- where no other variable clashes, the rest of the pass ends with what resolving makes
+abbrev pub Passing : ℕ → List ℕ → List ℕ → List ℕ → List ℕ → List ℕ → Type 0
+Passing x out X Y C D = second_clash C D x ≡ false → Pass x out X Y (resolve C D x)
 
 fits_none : (out C : List ℕ) → out ≡ [] → formed C ≡ true → Fits out C
 fits_none out C e f m h =
@@ -146,79 +120,41 @@ fits_none out C e f m h =
     let a = leb-true 2 m (and_parts (leb 2 m) (leb m 1025) c).0 in
     (subst (λ (o : List ℕ). last_variable o < variable m) (sym e) (omega arith), c)
 
-pub start : (x : ℕ) (out C : List ℕ) (T : List (List ℕ)) (n : ℕ) → out ≡ [] → formed C ≡ true → ((D : List ℕ) → In D T → formed D ≡ true) → Going x out C (constraint T n) 0 0
-start x out C T n e f g =
+pub passing : (x : ℕ) (out C : List ℕ) (T : List (List ℕ)) (n : ℕ) → out ≡ [] → formed C ≡ true → ((D : List ℕ) → In D T → formed D ≡ true) → Passing x out C (codes_at T n) C (constraint T n)
+passing x out C T n e f g a =
     let D = constraint T n in
-    let k = constraint_formed T n g in (
-      λ a. record {
-        up_x = formed_rising C f;
-        up_y = formed_rising D k;
-        fit_x = fits_none out C e f;
-        fit_y = fits_none out D e k;
-        alone = a;
-        ends = ap (λ (o : List ℕ). o ++ resolve C D x) e;
-      },
-      omega arith,
-      omega arith,
-      length_most D k,
-    )
+    let k = constraint_formed T n g in
+    record {
+      up_x = formed_rising C f;
+      up_y = formed_rising D k;
+      fit_x = fits_none out C e f;
+      fit_y = fits_none out D e k;
+      alone = a;
+      ends = ap (λ (o : List ℕ). o ++ resolve C D x) e;
+    }
 
-no_second : (p q : Bool) → refusal_of p q ≡ None → q ≡ false
-no_second true true e = absurd (let z : ◌≡◌ {A = ℕ} 0 1 = cc in omega arith)
-no_second true false e = refl
-no_second false q e = absurd (let z : ◌≡◌ {A = ℕ} 0 1 = cc in omega arith)
+module _ (x : ℕ) (out X Y M N C D : List ℕ) (s : Passing x out X Y C D) where
+  moved : (X' Y' : List ℕ) → X ≡ X' → Y ≡ Y' → Passing x out X' Y' C D
+  moved X' Y' e g = subst (λ (Y : List ℕ). Passing x out X' Y C D) g (subst (λ (X : List ℕ). Passing x out X Y C D) e s)
 
--- a turn: a and b were read after i codes of C and j of the numbered constraint
-module _ (x : ℕ) (out C : List ℕ) (T : List (List ℕ)) (n i j : ℕ) (a b : Option ℕ) (s : Going x out C (constraint T n) i j) (h : a ≡ placed C (i + 1)) (k : b ≡ code_at T n (j + 1)) where
-  pub turn_end : Fronts a b End → clash_of C (constraint T n) x ≡ None → out ≡ resolve C (constraint T n) x
-  turn_end f e =
-      let D = constraint T n in
-      let r = read C T n i j a b End h k f in
-      let p = s.0 (no_second (clash C D x) (second_clash C D x) e) in
-      let t = subst (λ (X : List ℕ). out ++ resolve X (drop j D) x ≡ resolve C D x) (front_end (drop i C) r.0) p.ends in
-      let u : out ++ [] ≡ resolve C D x = subst (λ (Y : List ℕ). out ++ resolve [] Y x ≡ resolve C D x) (front_end (drop j D) r.1) t in
-      sym (append-nil out) ∙ u
+  -- c goes to the end of out, which is then out'
+  module _ (c : ℕ) (out' : List ℕ) (k : Kept x out c out') where
+    put : (Z : List ℕ) → Fits out (c ∷ Z) → Pass x (out ++ kept x c) M N (resolve C D x) → Pass x out' M N (resolve C D x)
+    put Z f = subst (λ (o : List ℕ). Pass x o M N (resolve C D x)) (sym (was_kept x out c out' Z f k))
 
-  pub turn_left : (c : ℕ) (out' : List ℕ) → Fronts a b (Left c) → Kept x out c out' → Going x out' C (constraint T n) (i + 1) j
-  turn_left c out' f o =
-      let D = constraint T n in
-      let r = read C T n i j a b (Left c) h k f in
-      let w = front_within C i c r.0 in (
-        λ e. subst (λ (X : List ℕ). Pass x out' X (drop j D) (resolve C D x)) (tail_drop C i) (step_left x out (drop i C) (drop j D) _ c out' (s.0 e) r o),
-        omega arith,
-        s.2,
-        s.3,
-      )
+    pass_left : Steps X Y (Some (Left c)) M N → Passing x out' M N C D
+    pass_left h e = let p = moved (c ∷ M) N h.0 h.1 e in put M p.fit_x (left_at x out c M N _ p h.2)
 
-  pub turn_right : (c : ℕ) (out' : List ℕ) → Fronts a b (Right c) → Kept x out c out' → Going x out' C (constraint T n) i (j + 1)
-  turn_right c out' f o =
-      let D = constraint T n in
-      let r = read C T n i j a b (Right c) h k f in
-      let w = front_within D j c r.0 in (
-        λ e. subst (λ (Y : List ℕ). Pass x out' (drop i C) Y (resolve C D x)) (tail_drop D j) (step_right x out (drop i C) (drop j D) _ c out' (s.0 e) r o),
-        s.1,
-        omega arith,
-        s.3,
-      )
+    pass_right : Steps X Y (Some (Right c)) M N → Passing x out' M N C D
+    pass_right h e = let p = moved M (c ∷ N) h.0 h.1 e in put N p.fit_y (right_at x out c M N _ p h.2)
 
-  moved : (out' : List ℕ) (c d : ℕ) → front (drop i C) ≡ Some c → front (drop j (constraint T n)) ≡ Some d
-      → (second_clash C (constraint T n) x ≡ false → Pass x out' (tail (drop i C)) (tail (drop j (constraint T n))) (resolve C (constraint T n) x)) → Going x out' C (constraint T n) (i + 1) (j + 1)
-  moved out' c d e f p =
-      let D = constraint T n in
-      let u = front_within C i c e in
-      let v = front_within D j d f in (
-        λ q. subst (λ (Y : List ℕ). Pass x out' (drop (i + 1) C) Y (resolve C D x)) (tail_drop D j) (subst (λ (X : List ℕ). Pass x out' X (tail (drop j D)) (resolve C D x)) (tail_drop C i) (p q)),
-        omega arith,
-        omega arith,
-        s.3,
-      )
+    pass_both : Steps X Y (Some (Both c)) M N → Passing x out' M N C D
+    pass_both h e = let p = moved (c ∷ M) (c ∷ N) h.0 h.1 e in put M p.fit_x (both_at x out c M N _ p)
 
-  pub turn_both : (c : ℕ) (out' : List ℕ) → Fronts a b (Both c) → Kept x out c out' → Going x out' C (constraint T n) (i + 1) (j + 1)
-  turn_both c out' f o =
-      let r = read C T n i j a b (Both c) h k f in
-      moved out' c c r.0 r.1 (λ e. step_both x out (drop i C) (drop j (constraint T n)) _ c out' (s.0 e) r o)
+    pub pass_kept : (r : Front) → Steps X Y (Some r) M N → (r ≡ Left c) ⊎ ((r ≡ Right c) ⊎ (r ≡ Both c)) → Passing x out' M N C D
+    pass_kept r h o =
+        let P : Front → Type 0 = λ r. Steps X Y (Some r) M N in
+        ⊎_elim (λ e. pass_left (subst P e h)) (λ o. ⊎_elim (λ e. pass_right (subst P e h)) (λ e. pass_both (subst P e h)) o) o
 
-  pub turn_opposite : (c : ℕ) → Fronts a b (Opposite c) → Going x out C (constraint T n) (i + 1) (j + 1)
-  turn_opposite c f =
-      let r = read C T n i j a b (Opposite c) h k f in
-      moved out c (complement c) r.0 r.1 (λ e. step_opposite x out (drop i C) (drop j (constraint T n)) _ c (s.0 e) r)
+  pub pass_opposite : (r : Front) (c : ℕ) → Steps X Y (Some r) M N → r ≡ Opposite c → Passing x out M N C D
+  pass_opposite r c h o e = let i = subst (λ r. Steps X Y (Some r) M N) o h in opposite_at x out c M N _ (moved (c ∷ M) (complement c ∷ N) i.0 i.1 e)

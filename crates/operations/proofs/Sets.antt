@@ -1,11 +1,13 @@
 -- The trail's table over a push and a pop, and that there is room. Assumes nothing.
-use Rattle.std.proofs.Common.{◌≡◌, ℕ, zero, suc, ◌<◌, ◌≤◌, Bool, true, false, cond, not, ◌&&◌, ◌||◌, eqb, leb, List, [], ◌∷◌, ◌++◌, length, get_or, set, replicate, filter, sym, refl, ap, ◌∙◌, subst, ap₂, ⊎_elim, arith}
-use Rattle.std.proofs.lemmas.Bool.{and_parts, and_from, or_cases, or_left, or_from, or_parts, both_ways, cases_Bool, eq-eqb, ne_eqb, eqb-true, cases_eq, cases_lt, not-true, not_from_false, leb-true}
-use Rattle.std.proofs.lemmas.List.{length-map, get_or-set_same, get_or-set_other, get_or-replicate, get_or_past, length-replicate, length_push, map_push}
-use Rattle.qbf.specs.Qbf.{variable, setting, has, without, is_code, is_set}
-use Rattle.qbf.proofs.Basics.{has_head, has_tail, has_set, keep_has, set_other, set_new}
+use Rattle.std.proofs.Common.{◌≡◌, ℕ, ◌<◌, ◌≤◌, Bool, true, false, not, ◌&&◌, ◌||◌, eqb, leb, List, [], ◌∷◌, ◌++◌, length, get_or, set, map, replicate, sym, refl, ap, ◌∙◌, subst, ⊎_elim, arith}
+use Rattle.std.proofs.lemmas.Bool.{and_parts, and_from, or_cases, or_left, or_from, both_ways, cases_Bool, eq-eqb, ne_eqb, eqb-true, cases_eq, cases_lt, not-true, not_from_false, leb-true}
+use Rattle.std.proofs.lemmas.Map.Steps.{length-le_from_distinct_below}
+use Rattle.std.specs.List.{AllByRecursion, IsDistinct, list_any}
+use Rattle.std.proofs.lemmas.List.{length-map, get_or-set_same, get_or-set_other, get_or-replicate, get_or_past, length-replicate, length_push}
+use Rattle.qbf.specs.Qbf.{variable, has, is_code, is_set}
+use Rattle.qbf.proofs.Basics.{has_head, has_tail, has_set, set_other, set_new}
 use Rattle.calculus.specs.State.{Entry, literal_of, literals}
-use Rattle.calculus.proofs.Lists.{has_snoc}
+use Rattle.calculus.proofs.Lists.{has_snoc, is_set_snoc}
 use Rattle.operations.specs.declared.entry.Cause.{Cause}
 use Rattle.operations.specs.declared.entry.Cause.TheVariants.{Decided, Implied}
 use Rattle.operations.specs.declared.entry.Entry.{Entry as Kept}
@@ -16,18 +18,12 @@ literal_caused : (l : ℕ) (c : Cause) → literal_of (caused l c) ≡ l
 literal_caused l Decided = refl
 literal_caused l (Implied s n) = refl
 
-pub entries_push : (es : List Kept) (e : Kept) → entries_of (es ++ (e ∷ [])) ≡ entries_of es ++ (entry_of e ∷ [])
-entries_push es e = map_push entry_of es e
-
 literals_push : (es : List Kept) (e : Kept) → literals (entries_of (es ++ (e ∷ []))) ≡ literals (entries_of es) ++ (e.code ∷ [])
 literals_push [] e = ap (λ l. l ∷ []) (literal_caused e.code e.cause)
 literals_push (f ∷ es) e = ap (λ (A : List ℕ). literal_of (entry_of f) ∷ A) (literals_push es e)
 
 literals_length : (es : List Kept) → length (literals (entries_of es)) ≡ length es
 literals_length es = length-map (entries_of es) literal_of ∙ length-map es entry_of
-
-set_push : (A : List ℕ) (x v : ℕ) → is_set (A ++ (x ∷ [])) v ≡ is_set (x ∷ A) v
-set_push A x v = ap₂ ◌||◌ (has_snoc A x (setting v true)) (has_snoc A x (setting v false))
 
 -- no variable twice, said of the literals
 abbrev distinct : List ℕ → Bool
@@ -49,7 +45,7 @@ distinct_push [] l h a = refl
 distinct_push (m ∷ A) l h a =
     let p = and_parts (not (is_set A (variable m))) (distinct A) a in
     let f = free_parts A m (variable l) h in
-    let u : is_set (A ++ (l ∷ [])) (variable m) ≡ false = set_push A l (variable m) ∙ set_other A l (variable m) (λ e. f.0 (sym e)) ∙ not-true (is_set A (variable m)) p.0 in
+    let u : is_set (A ++ (l ∷ [])) (variable m) ≡ false = is_set_snoc A l (variable m) ∙ set_other A l (variable m) (λ e. f.0 (sym e)) ∙ not-true (is_set A (variable m)) p.0 in
     and_from (not (is_set (A ++ (l ∷ [])) (variable m))) (distinct (A ++ (l ∷ []))) (not_from_false (is_set (A ++ (l ∷ [])) (variable m)) u) (distinct_push A l f.1 p.1)
 
 distinct_pop : (A : List ℕ) (l : ℕ) → distinct (A ++ (l ∷ [])) ≡ true → (is_set A (variable l) ≡ false) × (distinct A ≡ true)
@@ -57,7 +53,7 @@ distinct_pop [] l a = (refl, refl)
 distinct_pop (m ∷ A) l a =
     let p = and_parts (not (is_set (A ++ (l ∷ [])) (variable m))) (distinct (A ++ (l ∷ []))) a in
     let i = distinct_pop A l p.1 in
-    let f = free_parts A l (variable m) (sym (set_push A l (variable m)) ∙ not-true (is_set (A ++ (l ∷ [])) (variable m)) p.0) in (
+    let f = free_parts A l (variable m) (sym (is_set_snoc A l (variable m)) ∙ not-true (is_set (A ++ (l ∷ [])) (variable m)) p.0) in (
       set_other A m (variable l) (λ e. f.0 (sym e)) ∙ i.0,
       and_from (not (is_set A (variable m))) (distinct A) (not_from_false (is_set A (variable m)) f.1) i.1,
     )
@@ -87,63 +83,40 @@ codes_push : (A : List ℕ) (l : ℕ) → is_code l ≡ true → AllCodes A → 
 codes_push A l c w m h =
     ⊎_elim (λ e. subst (λ x. is_code x ≡ true) (sym (eqb-true m l e)) c) (λ e. w m e) (or_cases (eqb m l) (has A m) (sym (has_snoc A l m) ∙ h))
 
--- as many literals as variables at most
-distinct_keep : (p : ℕ → Bool) (A : List ℕ) → distinct A ≡ true → distinct (filter p A) ≡ true
-distinct_keep p [] a = refl
-distinct_keep p (l ∷ A) a = go (distinct_keep p A q.1) (p l)
-  where
-    q : (not (is_set A (variable l)) ≡ true) × (distinct A ≡ true)
-    q = and_parts (not (is_set A (variable l))) (distinct A) a
-
-    none : (m : ℕ) → has A m ≡ false → has (filter p A) m ≡ false
-    none m e = ⊎_elim (λ (k : has (filter p A) m ≡ true). absurd (both_ways (has A m) e (keep_has p A m k).0)) (λ e. e) (cases_Bool (has (filter p A) m))
-
-    free : is_set (filter p A) (variable l) ≡ false
-    free =
-        let r = or_parts (has A (setting (variable l) true)) (has A (setting (variable l) false)) (not-true (is_set A (variable l)) q.0) in
-        or_from (has (filter p A) (setting (variable l) true)) (has (filter p A) (setting (variable l) false)) (none (setting (variable l) true) r.0) (none (setting (variable l) false) r.1)
-
-    go : distinct (filter p A) ≡ true → (b : Bool) → distinct (cond b (l ∷ filter p A) (filter p A)) ≡ true
-    go ih true = and_from (not (is_set (filter p A) (variable l))) (distinct (filter p A)) (not_from_false (is_set (filter p A) (variable l)) free) ih
-    go ih false = ih
-
-without_none : (x : ℕ) (A : List ℕ) → ((m : ℕ) → has A m ≡ true → variable m ≡ x → ⊥) → without x A ≡ A
-without_none x [] f = refl
-without_none x (l ∷ A) f =
-    ap (λ b. cond (not b) (l ∷ without x A) (without x A)) (ne_eqb (variable l) x (f l (has_head l A))) ∙ ap (λ (B : List ℕ). l ∷ B) (without_none x A (λ m h. f m (has_tail l m A h)))
-
-length_without : (x : ℕ) (A : List ℕ) → distinct A ≡ true → length A ≤ suc (length (without x A))
-length_without x [] a = omega arith
-length_without x (l ∷ A) a = go (length_without x A q.1) (eqb (variable l) x) refl
-  where
-    q : (not (is_set A (variable l)) ≡ true) × (distinct A ≡ true)
-    q = and_parts (not (is_set A (variable l))) (distinct A) a
-
-    go : length A ≤ suc (length (without x A)) → (b : Bool) → eqb (variable l) x ≡ b → suc (length A) ≤ suc (length (cond (not b) (l ∷ without x A) (without x A)))
-    go ih true e =
-        let z = eqb-true (variable l) x e in
-        let w = without_none x A (λ m h k. both_ways (is_set A (variable l)) (not-true (is_set A (variable l)) q.0) (subst (λ v. is_set A v ≡ true) (k ∙ sym z) (has_set A m h))) in
-        let y : length (without x A) ≡ length A = ap length w in
-        omega arith
-    go ih false e = omega arith
-
-few : (n : ℕ) (A : List ℕ) → distinct A ≡ true → ((m : ℕ) → has A m ≡ true → (1 ≤ variable m) × (variable m ≤ n)) → length A ≤ n
-few zero [] a f = omega arith
-few zero (l ∷ A) a f = let z = f l (has_head l A) in absurd (omega arith)
-few (suc n) A a f =
-    let t : ℕ → Bool = λ l. not (eqb (variable l) (suc n)) in
-    let i : length (without (suc n) A) ≤ n =
-    few n (without (suc n) A) (distinct_keep t A a)
-    (λ m h. let k = keep_has t A m h in let z = f m k.0 in let y : variable m ≡ suc n → ⊥ = λ e. both_ways (eqb (variable m) (suc n)) (not-true (eqb (variable m) (suc n)) k.1) (eq-eqb (variable m) (suc n) e) in (z.0, omega arith)) in
-    let j = length_without (suc n) A a in
-    omega arith
-
 code_variable : (m : ℕ) → is_code m ≡ true → (1 ≤ variable m) × (variable m ≤ 512)
 code_variable m c =
     let p = and_parts (leb 2 m) (leb m 1025) c in
     let a = leb-true 2 m p.0 in
     let b = leb-true m 1025 p.1 in
     (omega arith, omega arith)
+
+-- no more literals than variables: their variables and 0 are distinct and below 513
+unset_all : (A : List ℕ) (v : ℕ) → is_set A v ≡ false → AllByRecursion (λ y. eqb v y ≡ false) (map variable A)
+unset_all [] v e = tt
+unset_all (m ∷ A) v e = let f = free_parts A m v e in (ne_eqb v (variable m) (λ z. f.0 (sym z)), unset_all A v f.1)
+
+all_distinct : (A : List ℕ) → distinct A ≡ true → IsDistinct eqb (map variable A)
+unfolding IsDistinct
+all_distinct [] a = tt
+all_distinct (m ∷ A) a = let p = and_parts (not (is_set A (variable m))) (distinct A) a in (unset_all A (variable m) (not-true (is_set A (variable m)) p.0), all_distinct A p.1)
+
+all_below : (A : List ℕ) → AllCodes A → (q : ℕ) → list_any (eqb q) (map variable A) ≡ true → q < 513
+all_below [] c q e = absurd (both_ways false refl e)
+all_below (m ∷ A) c q e =
+    ⊎_elim (λ i. omega (arith, eqb-true q (variable m) i, code_variable m (c m (has_head m A)))) (λ r. all_below A (λ n h. c n (has_tail m n A h)) q r)
+    (or_cases (eqb q (variable m)) (list_any (eqb q) (map variable A)) e)
+
+no_zero : (A : List ℕ) → AllCodes A → is_set A 0 ≡ false
+no_zero A c =
+    let n : (l : ℕ) → is_code l ≡ false → has A l ≡ false = λ l i. ⊎_elim (λ (h : has A l ≡ true). absurd (both_ways (is_code l) i (c l h))) (λ h. h) (cases_Bool (has A l)) in
+    or_from (has A 0) (has A 1) (n 0 refl) (n 1 refl)
+
+few : (A : List ℕ) → distinct A ≡ true → AllCodes A → length A ≤ 512
+unfolding IsDistinct
+few A d c =
+    let i = length-le_from_distinct_below (0 ∷ map variable A) 513 (unset_all A 0 (no_zero A c), all_distinct A d)
+    (λ q e. ⊎_elim (λ h. omega (arith, eqb-true q 0 h)) (λ h. all_below A c q h) (or_cases (eqb q 0) (list_any (eqb q) (map variable A)) e)) in
+    omega (arith, i, length-map A variable)
 
 -- what the trail keeps true
 abbrev pub Sound : List Bool → List Kept → Type 0
@@ -186,5 +159,5 @@ pub room : (es : List Kept) (l : ℕ) → is_code l ≡ true → is_set (literal
 room es l c h p w =
     let A = literals (entries_of es) in
     let d = distinct_push A l h (sym (apart_distinct (entries_of es)) ∙ p) in
-    let i = few 512 (A ++ (l ∷ [])) d (λ m k. code_variable m (codes_push A l c w m k)) in
+    let i = few (A ++ (l ∷ [])) d (codes_push A l c w) in
     omega (arith, i, length_push A l, literals_length es)

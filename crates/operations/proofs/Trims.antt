@@ -1,14 +1,11 @@
 -- Reducing from the right: literals of the other quantifier that no own one follows are dropped. Assumes nothing.
-use Rattle.std.proofs.Common.{◌≡◌, ℕ, ◌+◌, ◌-◌, ◌<◌, ◌≤◌, Bool, true, false, cond, ◌&&◌, ◌||◌, leb, List, [], ◌∷◌, ◌++◌, length, get_or, take, Some, filter, sym, refl, ap, ◌∙◌, subst, arith}
+use Rattle.std.proofs.Common.{◌≡◌, ℕ, zero, suc, ◌+◌, ◌<◌, ◌≤◌, Bool, true, false, cond, ◌&&◌, ◌||◌, leb, List, [], ◌∷◌, length, get_or, take, filter, sym, refl, ap, ◌∙◌, subst, ap₂, arith}
 use Rattle.std.proofs.lemmas.Bool.{and_parts, and_from, both_ways, le-leb, lt-leb}
-use Rattle.std.proofs.lemmas.List.{take_all, take_more}
 use Rattle.qbf.specs.declared.quantifier.Quantifier.{Quantifier}
 use Rattle.qbf.specs.declared.side.Side.{Side}
 use Rattle.qbf.specs.Qbf.{variable, quantifier_of, has, every, own, rising, formed, is_code, own_from, reduce}
 use Rattle.qbf.proofs.Basics.{has_head, has_tail, some_has, some_which, has_keep, keep_has}
-use Rattle.qbf.specs.Constraints.{code_at as placed}
 use Rattle.qbf.proofs.Learned.{rising_parts}
-use Rattle.qbf.proofs.Places.{code_there}
 
 -- a literal before what is left: it stays if it is own or something is left
 abbrev pub put : ℕ → Bool → List ℕ → List ℕ
@@ -78,46 +75,28 @@ trimming s prefix (l ∷ C) r =
 pub formed_rising : (C : List ℕ) → formed C ≡ true → rising C ≡ true
 formed_rising C f = (and_parts (every is_code C) (rising C) f).1
 
--- one literal at the end
-put_more : (m l : ℕ) (b : Bool) (P : List ℕ) → put m b (P ++ (l ∷ [])) ≡ m ∷ (P ++ (l ∷ []))
-put_more m l true P = refl
-put_more m l false [] = refl
-put_more m l false (n ∷ P) = refl
+-- nothing stays where no literal is own
+trimmed_none : (s : Side) (prefix : List Quantifier) (C : List ℕ) → ((k : ℕ) → k < length C → own s (quantifier_of prefix (variable (get_or C k 0))) ≡ false) → trimmed s prefix C ≡ []
+trimmed_none s prefix [] f = refl
+trimmed_none s prefix (l ∷ C) f = ap₂ (put l) (f 0 (omega arith)) (trimmed_none s prefix C (λ k h. f (suc k) (omega arith)))
 
-trimmed_own : (s : Side) (prefix : List Quantifier) (P : List ℕ) (l : ℕ) → own s (quantifier_of prefix (variable l)) ≡ true → trimmed s prefix (P ++ (l ∷ [])) ≡ P ++ (l ∷ [])
-trimmed_own s prefix [] l o = ap (λ b. put l b []) o
-trimmed_own s prefix (m ∷ P) l o = ap (put m (own s (quantifier_of prefix (variable m)))) (trimmed_own s prefix P l o) ∙ put_more m l (own s (quantifier_of prefix (variable m))) P
+put_before : (l m : ℕ) (b : Bool) (C : List ℕ) → put l b (m ∷ C) ≡ l ∷ m ∷ C
+put_before l m true C = refl
+put_before l m false C = refl
 
-trimmed_other : (s : Side) (prefix : List Quantifier) (P : List ℕ) (l : ℕ) → own s (quantifier_of prefix (variable l)) ≡ false → trimmed s prefix (P ++ (l ∷ [])) ≡ trimmed s prefix P
-trimmed_other s prefix [] l o = ap (λ b. put l b []) o
-trimmed_other s prefix (m ∷ P) l o = ap (put m (own s (quantifier_of prefix (variable m)))) (trimmed_other s prefix P l o)
+-- all up to the last own one stay
+trimmed_last : (s : Side) (prefix : List Quantifier) (C : List ℕ) (i : ℕ) → i < length C → own s (quantifier_of prefix (variable (get_or C i 0))) ≡ true
+    → ((k : ℕ) → i + 1 ≤ k → k < length C → own s (quantifier_of prefix (variable (get_or C k 0))) ≡ false) → trimmed s prefix C ≡ take (suc i) C
+trimmed_last s prefix [] i h o f = absurd (omega arith)
+trimmed_last s prefix (l ∷ C) zero h o f = ap₂ (put l) o (trimmed_none s prefix C (λ k i. f (suc k) (omega arith) (omega arith)))
+trimmed_last s prefix (l ∷ []) (suc i) h o f = absurd (omega arith)
+trimmed_last s prefix (l ∷ m ∷ C) (suc i) h o f =
+    ap (put l (own s (quantifier_of prefix (variable l)))) (trimmed_last s prefix (m ∷ C) i (omega arith) o (λ k a b. f (suc k) (omega arith) (omega arith))) ∙ put_before l m (own s (quantifier_of prefix (variable l))) (take i C)
 
-last : (C : List ℕ) (n : ℕ) → 0 < n → n ≤ length C → take n C ≡ take (n - 1) C ++ (get_or C (n - 1) 0 ∷ [])
-last C n h k =
-    let e : n - 1 + 1 ≡ n = omega arith in
-    ap (λ i. take i C) (sym e) ∙ take_more C (n - 1) 0 (omega arith)
+module _ (s : Side) (prefix : List Quantifier) (C : List ℕ) (f : formed C ≡ true) where
+  pub reduced_none : ((k : ℕ) → k < length C → own s (quantifier_of prefix (variable (get_or C k 0))) ≡ false) → [] ≡ reduce s prefix C
+  reduced_none g = sym (trimmed_none s prefix C g) ∙ trimming s prefix C (formed_rising C f)
 
--- The pass from the right: what is left is as good as the whole.
-abbrev pub Trimmed : Side → List Quantifier → List ℕ → ℕ → Type 0
-Trimmed s prefix C n = (trimmed s prefix (take n C) ≡ reduce s prefix C) × (n ≤ length C)
-
-pub begun : (s : Side) (prefix : List Quantifier) (C : List ℕ) (n : ℕ) → formed C ≡ true → n ≡ length C → Trimmed s prefix C n
-begun s prefix C n f e = (ap (trimmed s prefix) (take_all n C (omega arith)) ∙ trimming s prefix C (formed_rising C f), omega arith)
-
--- at the code x, read at the last place that is left, and q the quantifier of its variable v
-module _ (s : Side) (prefix : List Quantifier) (C : List ℕ) (n : ℕ) (h : 0 < n) (t : Trimmed s prefix C n) (x v : ℕ) (q : Quantifier) (r : Some x ≡ placed C n) (e : v ≡ variable x) (k : q ≡ quantifier_of prefix v) where
-  owned : own s (quantifier_of prefix (variable (get_or C (n - 1) 0))) ≡ own s q
-  owned =
-      let j : Some x ≡ Some (get_or C (n - 1) 0) = r ∙ code_there C n h t.1 in
-      let z : x ≡ get_or C (n - 1) 0 = cc in
-      sym (ap (own s) (k ∙ ap (quantifier_of prefix) (e ∙ ap variable z)))
-
-  pub stopped : true ≡ own s q → take n C ≡ reduce s prefix C
-  stopped o =
-      let l = last C n h t.1 in
-      l ∙ sym (trimmed_own s prefix (take (n - 1) C) (get_or C (n - 1) 0) (owned ∙ sym o)) ∙ ap (trimmed s prefix) (sym l) ∙ t.0
-
-  pub passed : false ≡ own s q → Trimmed s prefix C (n - 1)
-  passed o =
-      let i = t.1 in
-      (sym (trimmed_other s prefix (take (n - 1) C) (get_or C (n - 1) 0) (owned ∙ sym o)) ∙ ap (trimmed s prefix) (sym (last C n h t.1)) ∙ t.0, omega arith)
+  pub reduced_last : (i : ℕ) → i < length C → own s (quantifier_of prefix (variable (get_or C i 0))) ≡ true
+      → ((k : ℕ) → i + 1 ≤ k → k < length C → own s (quantifier_of prefix (variable (get_or C k 0))) ≡ false) → take (i + 1) C ≡ reduce s prefix C
+  reduced_last i h o g = ap (λ n. take n C) (let e : i + 1 ≡ suc i = omega arith in e) ∙ sym (trimmed_last s prefix C i h o g) ∙ trimming s prefix C (formed_rising C f)

@@ -1,84 +1,46 @@
--- The place where the trail is cut. Assumes nothing.
-use Rattle.std.proofs.Common.{◌≡◌, ℕ, zero, suc, ◌+◌, ◌-◌, ◌<◌, ◌≤◌, true, false, ltb, List, [], ◌∷◌, ◌++◌, length, get_or, take, drop, sym, refl, ap, ◌∙◌, subst, ⊎_elim, arith}
-use Rattle.std.proofs.lemmas.Bool.{both_ways, lt-ltb, le-ltb, cases_lt}
-use Rattle.std.proofs.lemmas.List.{append_assoc, append-nil, take_more, drop_more, drop_all}
+-- The place where the trail is cut: that of the first decision that is not kept. Assumes nothing.
+use Rattle.std.proofs.Common.{◌≡◌, ℕ, zero, suc, ◌+◌, true, false, ltb, List, [], ◌∷◌, take, None, Some, map, filter, Option, sym, refl, ap, ◌∙◌, subst, arith}
+use Rattle.std.proofs.lemmas.Bool.{lt-ltb, le-ltb}
+use Rattle.std.specs.List.{slice_get, enumerate_from}
+use Rattle.std.specs.Prelude.{MatchOption}
 use Rattle.calculus.specs.State.{Entry, decisions, cut}
 use Rattle.operations.specs.declared.entry.Cause.{Cause}
 use Rattle.operations.specs.declared.entry.Cause.TheVariants.{Decided, Implied}
 use Rattle.operations.specs.declared.entry.Entry.{Entry as Kept}
-use Rattle.operations.specs.Entries.{caused, decides, entry_of, entries_of}
-use Rattle.operations.proofs.Sets.{entries_push}
+use Rattle.operations.specs.Entries.{decides, entry_of, entries_of}
 
--- before place i, with m more decisions kept
-abbrev pub Left : ℕ → List Kept → ℕ → ℕ → Type 0
-Left k es m i = (entries_of (take i es) ++ cut m (entries_of (drop i es)) ≡ cut k (entries_of es)) × (ltb m (decisions (entries_of (drop i es))) ≡ ltb k (decisions (entries_of es)))
+-- the decisions, each with its place, counted from i
+abbrev pub decided_from : ℕ → List Kept → List (ℕ × Kept)
+decided_from i es = filter (λ q. decides q.1.cause) (enumerate_from i es)
 
-ltb_suc : (a b : ℕ) → ltb (suc a) (suc b) ≡ ltb a b
-ltb_suc a b = ⊎_elim (λ (h : a < b). lt-ltb (suc a) (suc b) (omega arith) ∙ sym (lt-ltb a b h)) (λ (h : b ≤ a). le-ltb (suc a) (suc b) (omega arith) ∙ sym (le-ltb a b h)) (cases_lt a b)
+-- whether k decisions can be kept, and the place of the cut, counted from i
+abbrev Cuts : ℕ → ℕ → List Kept → Option ℕ → Type 0
+Cuts k i es r = MatchOption r (ltb k (decisions (entries_of es)) ≡ false) (λ p. (ltb k (decisions (entries_of es)) ≡ true) × ((j : ℕ) × (p ≡ i + j) × (entries_of (take j es) ≡ cut k (entries_of es))))
 
--- what one entry at the front makes of the count and of the cut
-count_decided : (l : ℕ) (c : Cause) (t : List Entry) → decides c ≡ true → decisions (caused l c ∷ t) ≡ suc (decisions t)
-count_decided l Decided t e = refl
-count_decided l (Implied s n) t e = absurd (both_ways false refl e)
+-- one more entry at the front
+fronted : (k m i : ℕ) (e : Kept) (es : List Kept) (r : Option ℕ) → ltb m (decisions (entries_of (e ∷ es))) ≡ ltb k (decisions (entries_of es)) → cut m (entries_of (e ∷ es)) ≡ entry_of e ∷ cut k (entries_of es)
+    → Cuts k (i + 1) es r → Cuts m i (e ∷ es) r
+fronted k m i e es None a b h = a ∙ h
+fronted k m i e es (Some p) a b h = (a ∙ h.0, (suc h.1.0, omega (arith, h.1.1), ap (λ (t : List Entry). entry_of e ∷ t) h.1.2 ∙ sym b))
 
-count_implied : (l : ℕ) (c : Cause) (t : List Entry) → decides c ≡ false → decisions (caused l c ∷ t) ≡ decisions t
-count_implied l Decided t e = absurd (both_ways true e refl)
-count_implied l (Implied s n) t e = refl
+-- of the code l and the cause c
+abbrev kept : ℕ → Cause → Kept
+kept l c = record { code = l; cause = c }
 
-cut_here : (l : ℕ) (c : Cause) (t : List Entry) → decides c ≡ true → cut 0 (caused l c ∷ t) ≡ []
-cut_here l Decided t e = refl
-cut_here l (Implied s n) t e = absurd (both_ways false refl e)
+cuts : (k i : ℕ) (es : List Kept) → Cuts k i es (slice_get (map (λ q. q.0) (decided_from i es)) k)
+cuts k i [] = le-ltb k 0 (omega arith)
+cuts k i (e ∷ es) = go (λ k. cuts k (i + 1) es) k e.cause
+  where
+    go : ((k : ℕ) → Cuts k (i + 1) es (slice_get (map (λ q. q.0) (decided_from (i + 1) es)) k)) → (k : ℕ) (c : Cause) → Cuts k i (kept e.code c ∷ es) (slice_get (map (λ q. q.0) (decided_from i (kept e.code c ∷ es))) k)
+    go ih zero Decided = (lt-ltb 0 (suc (decisions (entries_of es))) (omega arith), (0, omega arith, refl))
+    go ih (suc k) Decided = fronted k (suc k) i (kept e.code Decided) es _ (grind arith) refl (ih k)
+    go ih k (Implied s n) = fronted k k i (kept e.code (Implied s n)) es _ refl refl (ih k)
 
-cut_later : (k l : ℕ) (c : Cause) (t : List Entry) → decides c ≡ true → cut (suc k) (caused l c ∷ t) ≡ caused l c ∷ cut k t
-cut_later k l Decided t e = refl
-cut_later k l (Implied s n) t e = absurd (both_ways false refl e)
-
-cut_implied : (k l : ℕ) (c : Cause) (t : List Entry) → decides c ≡ false → cut k (caused l c ∷ t) ≡ caused l c ∷ cut k t
-cut_implied k l Decided t e = absurd (both_ways true e refl)
-cut_implied k l (Implied s n) t e = refl
-
--- at the entry e
-reached : (k : ℕ) (es : List Kept) (m i : ℕ) (e : Kept) → i < length es → e ≡ get_or es i e → Left k es m i
-    → (entries_of (take i es) ++ cut m (entry_of e ∷ entries_of (drop (i + 1) es)) ≡ cut k (entries_of es)) × (ltb m (decisions (entry_of e ∷ entries_of (drop (i + 1) es))) ≡ ltb k (decisions (entries_of es)))
-reached k es m i e h g s =
-    let d : drop i es ≡ e ∷ drop (i + 1) es = drop_more es i e h ∙ ap (λ (x : Kept). x ∷ drop (i + 1) es) (sym g) in
-    (ap (λ (D : List Kept). entries_of (take i es) ++ cut m (entries_of D)) (sym d) ∙ s.0, ap (λ (D : List Kept). ltb m (decisions (entries_of D))) (sym d) ∙ s.1)
-
-grown : (es : List Kept) (i : ℕ) (e : Kept) (U : List Entry) → i < length es → e ≡ get_or es i e → entries_of (take (i + 1) es) ++ U ≡ entries_of (take i es) ++ (entry_of e ∷ U)
-grown es i e U h g =
-    let p : take (i + 1) es ≡ take i es ++ (e ∷ []) = take_more es i e h ∙ ap (λ (x : Kept). take i es ++ (x ∷ [])) (sym g) in
-    ap (λ (T : List Entry). T ++ U) (ap entries_of p ∙ entries_push (take i es) e) ∙ append_assoc (entries_of (take i es)) (entry_of e ∷ []) U
-
-pub passed : (k : ℕ) (es : List Kept) (m i : ℕ) (e : Kept) → i < length es → e ≡ get_or es i e → decides e.cause ≡ false → Left k es m i → Left k es m (i + 1)
-passed k es m i e h g f s =
-    let r = reached k es m i e h g s in
-    let D : List Entry = entries_of (drop (i + 1) es) in (
-      grown es i e (cut m D) h g ∙ ap (λ (T : List Entry). entries_of (take i es) ++ T) (sym (cut_implied m e.code e.cause D f)) ∙ r.0,
-      ap (ltb m) (sym (count_implied e.code e.cause D f)) ∙ r.1,
-    )
-
-pub counted : (k : ℕ) (es : List Kept) (m n i : ℕ) (e : Kept) → i < length es → e ≡ get_or es i e → decides e.cause ≡ true → (m ≡ 0 → ⊥) → n ≡ m - 1 → Left k es m i → Left k es n (i + 1)
-counted k es zero n i e h g f z q s = absurd (z refl)
-counted k es (suc m) n i e h g f z q s =
-    let r = reached k es (suc m) i e h g s in
-    let D : List Entry = entries_of (drop (i + 1) es) in
-    let w : m ≡ n = omega arith in
-    let P : ℕ → Type 0 = λ x. Left k es x (i + 1) in
-    subst P w (
-      grown es i e (cut m D) h g ∙ ap (λ (T : List Entry). entries_of (take i es) ++ T) (sym (cut_later m e.code e.cause D f)) ∙ r.0,
-      sym (ltb_suc m (decisions D)) ∙ ap (ltb (suc m)) (sym (count_decided e.code e.cause D f)) ∙ r.1,
-    )
-
-pub found : (k : ℕ) (es : List Kept) (m i : ℕ) (e : Kept) → i < length es → e ≡ get_or es i e → decides e.cause ≡ true → m ≡ 0 → Left k es m i
-    → (ltb k (decisions (entries_of es)) ≡ true) × (entries_of (take i es) ≡ cut k (entries_of es))
-found k es m i e h g f z s =
-    let P : ℕ → Type 0 = λ x. Left k es x i in
-    let r = reached k es 0 i e h g (subst P z s) in
-    let D : List Entry = entries_of (drop (i + 1) es) in (
-      sym (sym (lt-ltb 0 (suc (decisions D)) (omega arith)) ∙ ap (ltb 0) (sym (count_decided e.code e.cause D f)) ∙ r.1),
-      sym (append-nil (entries_of (take i es))) ∙ ap (λ (T : List Entry). entries_of (take i es) ++ T) (sym (cut_here e.code e.cause D f)) ∙ r.0,
-    )
-
-pub none : (k : ℕ) (es : List Kept) (m i : ℕ) → length es ≤ i → Left k es m i → ltb k (decisions (entries_of es)) ≡ false
-none k es m i h s =
-    sym (ap (λ (D : List Kept). ltb m (decisions (entries_of D))) (sym (drop_all i es h)) ∙ s.1) ∙ le-ltb m 0 (omega arith)
+-- counted from 0
+pub boundary : (k : ℕ) (es : List Kept) (r : Option ℕ) → r ≡ slice_get (map (λ q. q.0) (decided_from 0 es)) k
+    → MatchOption r (ltb k (decisions (entries_of es)) ≡ false) (λ p. (ltb k (decisions (entries_of es)) ≡ true) × (entries_of (take p es) ≡ cut k (entries_of es)))
+boundary k es r e = go r (subst (Cuts k 0 es) (sym e) (cuts k 0 es))
+  where
+    go : (r : Option ℕ) → Cuts k 0 es r → MatchOption r (ltb k (decisions (entries_of es)) ≡ false) (λ p. (ltb k (decisions (entries_of es)) ≡ true) × (entries_of (take p es) ≡ cut k (entries_of es)))
+    go None h = h
+    go (Some p) h = (h.0, ap (λ p. entries_of (take p es)) (let z : p ≡ h.1.0 = omega (arith, h.1.1) in z) ∙ h.1.2)

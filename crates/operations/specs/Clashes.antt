@@ -1,12 +1,12 @@
 -- Why two constraints cannot be resolved on a variable. Assumes nothing.
-use Rattle.std.specs.Prelude.{ℕ, Bool, cond, List, Some, None, Option}
+use Rattle.std.specs.Prelude.{ℕ, Bool, cond, List, Ok, Err, Result}
+use Rattle.faults.specs.declared.refusal.Refusal.{Refusal}
+use Rattle.faults.specs.declared.refusal.Refusal.TheVariants.{NoClash, SecondClash}
 use Rattle.calculus.specs.State.{clash, second_clash}
-use Rattle.operations.specs.declared.resolve.Unresolvable.{Unresolvable}
-use Rattle.operations.specs.declared.resolve.Unresolvable.TheVariants.{NoClash, SecondClash}
 
 -- by whether there is a clash on the variable, and one on another
-abbrev pub refusal_of : Bool → Bool → Option Unresolvable
-refusal_of pivot second = cond pivot (cond second (Some SecondClash) None) (Some NoClash)
+abbrev pub refusal_of : Bool → Bool → Result (Unit {0}) Refusal
+refusal_of pivot second = cond pivot (cond second (Err SecondClash) (Ok tt)) (Err NoClash)
 
-abbrev pub clash_of : List ℕ → List ℕ → ℕ → Option Unresolvable
+abbrev pub clash_of : List ℕ → List ℕ → ℕ → Result (Unit {0}) Refusal
 clash_of C D v = refusal_of (clash C D v) (second_clash C D v)

@@ -1,5 +1,6 @@
 -- The entries of a trail, as the program keeps them. Assumes nothing.
-use Rattle.std.specs.Prelude.{◌≡◌, ℕ, ◌-◌, Bool, true, false, cond, not, ◌&&◌, List, [], ◌∷◌, map, length, Some, None, Option, nat_le, slice_index_or}
+use Rattle.std.specs.Prelude.{◌≡◌, ℕ, Bool, true, false, not, ◌&&◌, List, [], ◌∷◌, map, Option, slice_index_or}
+use Rattle.qbf.specs.Items.{item_at}
 use Rattle.qbf.specs.Qbf.{variable, has, is_code, is_set}
 use Rattle.calculus.specs.State.{Entry, decision, implication, literal_of, literals}
 use Rattle.operations.specs.declared.entry.Cause.{Cause}
@@ -37,4 +38,4 @@ InRange t = (l : ℕ) → has (literals t) l ≡ true → is_code l ≡ true
 
 -- the entry at a place, counted from 1
 abbrev pub entry_at : List Kept → ℕ → Option Kept
-entry_at es p = cond (nat_le 1 p && nat_le p (length es)) (Some (slice_index_or es (p - 1) (record { code = 0; cause = Decided }))) None
+entry_at es p = item_at es p

@@ -1,4 +1,5 @@
 pub mod Entries
 pub mod Trails
 pub mod Clashes
+pub mod Fetches
 pub mod Fronts

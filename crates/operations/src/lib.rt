@@ -3,8 +3,8 @@
 
 pub mod blocks;
 pub mod entry;
+mod merge;
 pub mod numbered;
-mod quantifiers;
 pub mod reduce;
 pub mod resolve;
 pub mod trail;

@@ -3,7 +3,6 @@ ghost use Rattle.qbf.specs.Constraints.{codes_of};
 ghost use Rattle.qbf.specs.Qbf.{reduce};
 ghost use Rattle.std.specs.Prelude.{◌≡◌, take};
 
-use crate::quantifiers::quantifier_of;
 use qbf::constraint::Constraint;
 use qbf::literal::variable;
 use qbf::quantifier::Quantifier;
@@ -13,17 +12,14 @@ use qbf::side::Side;
 fn own_end(side: Side, prefix: &[Quantifier], working: &Constraint) -> usize
     ensures { take result (codes_of working.now) ≡ reduce side prefix.now (codes_of working.now) }
 {
-    let mut left = working.len();
-    'places: while left > 0 {
-        let Some(code) = working.code(left) else {
-            unreachable()
-        };
-        if side.owns(quantifier_of(prefix, variable(code))) {
-            return left;
-        }
-        left -= 1;
+    let last = working
+        .as_slice()
+        .iter()
+        .rposition(|code| side.owns_variable(prefix, variable(*code)));
+    match last {
+        Some(place) => place + 1,
+        None => 0,
     }
-    0
 }
 
 /// Reduces a constraint.

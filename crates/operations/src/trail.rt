@@ -1,5 +1,5 @@
 //! The literals that are set, in order, and for each code whether it is among them.
-ghost use Rattle.std.specs.Prelude.{◌≡◌, ◌≤◌, true, vec_len, vec_capacity};
+ghost use Rattle.std.specs.Prelude.{◌≡◌, ◌≤◌, true, vec_capacity};
 ghost use Rattle.operations.specs.Entries.{InRange, Tied, apart, entries_of};
 
 use crate::entry::Entry;
@@ -10,10 +10,18 @@ pub mod methods;
 #[derive(Drop)]
 pub struct Trail {
     entries: Vec<Entry>,
-    truth: Vec<bool>,
-    ghost tied: { Tied truth.items (entries_of entries.items) },
+    truth: [bool; 1026],
+    ghost tied: { Tied truth (entries_of entries.items) },
     ghost once: { apart (entries_of entries.items) ≡ true },
     ghost ranged: { InRange (entries_of entries.items) },
-    ghost size: { vec_len truth ≡ 1026 },
     ghost room: { 512 ≤ vec_capacity entries },
+}
+
+/// Why an entry cannot be appended.
+#[derive(Clone, Copy)]
+pub enum NotAppended {
+    /// Its literal is no code from 2 to 1,025.
+    NoCode,
+    /// Its variable is set.
+    VariableSet,
 }

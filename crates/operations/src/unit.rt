@@ -4,8 +4,8 @@ ghost use Rattle.operations.specs.Trails.{trail_of};
 ghost use Rattle.qbf.specs.Qbf.{unit};
 ghost use Rattle.std.specs.Prelude.{◌≡◌};
 
-use crate::quantifiers::quantifier_of;
 use crate::trail::Trail;
+use database::codes::Codes;
 use database::database::Database;
 use qbf::literal::variable;
 use qbf::quantifier::Quantifier;
@@ -21,28 +21,17 @@ pub fn unit_literal<D: Database>(
 ) -> Option<u16>
     ensures { result ≡ unit side prefix.now (literals (trail_of trail.now)) (constraint (D.Database.meaning database.now).list number) }
 {
-    let Some(count) = database.length(number) else {
-        return None;
-    };
-    let mut seen = false;
-    let mut found = None;
-    'places: for place in 0..count {
-        let Some(code) = database.code(number, place + 1) else {
-            unreachable()
-        };
+    let mut first = None;
+    for code in Codes::of(database, number) {
         if trail.is_set(variable(code)) {
             if trail.holds(side.implied(code)) {
                 return None;
             }
-        } else if side.owns(quantifier_of(prefix, variable(code))) {
-            if seen {
-                return None;
-            }
-            seen = true;
-            found = Some(code);
-        } else {
-            seen = true;
+        } else if first.is_none() {
+            first = Some(code);
+        } else if side.owns_variable(prefix, variable(code)) {
+            return None;
         }
     }
-    found
+    first.filter(|code| side.owns_variable(prefix, variable(*code)))
 }

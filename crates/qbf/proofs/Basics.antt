@@ -1,6 +1,6 @@
 -- Lists of codes, literals, and what is set. Assumes nothing.
 use Rattle.std.proofs.Common.{◌≡◌, ℕ, ◌%◌, ◌<◌, Bool, true, false, cond, ◌||◌, eqb, ltb, ◌⊎◌, List, [], ◌∷◌, filter, sym, refl, ap, ◌∙◌, subst, inl, inr, ⊎_elim, arith}
-use Rattle.std.proofs.lemmas.Bool.{and_parts, and_from, or_cases, or_left, or_right, or_parts, or_from, both_ways, eq-eqb, eqb-true, ne_eqb, ltb-true, cases_eq}
+use Rattle.std.proofs.lemmas.Bool.{and_parts, and_from, or_cases, or_left, or_right, or_parts, both_ways, eq-eqb, eqb-true, ne_eqb, ltb-true, cases_eq}
 use Rattle.qbf.specs.declared.side.Side.{Side}
 use Rattle.qbf.specs.declared.side.Side.TheVariants.{Clause, Cube}
 use Rattle.qbf.specs.Qbf.{variable, complement, setting, has, every, some, In, is_set, rising, against, implied}
@@ -64,10 +64,6 @@ pub none_in : {X : Type 0} (p : X → Bool) (T : List X) (C : X) → some p T �
 none_in p [] C e i = absurd i
 none_in p (D ∷ T) C e (inl q) = subst (λ x. p x ≡ false) (sym q) (or_parts (p D) (some p T) e).0
 none_in p (D ∷ T) C e (inr i) = none_in p T C (or_parts (p D) (some p T) e).1 i
-
-pub none_from : {X : Type 0} (p : X → Bool) (T : List X) → ((C : X) → In C T → p C ≡ false) → some p T ≡ false
-none_from p [] f = refl
-none_from p (D ∷ T) f = or_from (p D) (some p T) (f D (inl refl)) (none_from p T (λ C i. f C (inr i)))
 
 -- literals
 pub against_variable : (s : Side) (l : ℕ) → variable (against s l) ≡ variable l

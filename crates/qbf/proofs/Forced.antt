@@ -250,7 +250,7 @@ pub record IsUnit (s : Side) (prefix : List Quantifier) (A C : List ℕ) (l : �
   pub open_yet : some (λ m. has A (implied s m)) C ≡ false
   pub left : reduce s prefix (unset A C) ≡ l ∷ []
 
-only_is : (C : List ℕ) (l : ℕ) → only C ≡ Some l → C ≡ l ∷ []
+pub only_is : (C : List ℕ) (l : ℕ) → only C ≡ Some l → C ≡ l ∷ []
 only_is [] l e = cc
 only_is (m ∷ []) l e = cc
 only_is (m ∷ n ∷ C) l e = cc

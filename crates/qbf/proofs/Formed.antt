@@ -1,7 +1,9 @@
 -- Lists of codes whose variables rise: how long they are, one code more at the end, and the same said by places. Assumes nothing.
-use Rattle.std.proofs.Common.{◌≡◌, ℕ, zero, suc, ◌+◌, ◌<◌, ◌≤◌, Bool, true, ◌&&◌, ltb, leb, List, [], ◌∷◌, ◌++◌, length, get_or, take, refl, add-one, arith}
+use Rattle.std.proofs.Common.{◌≡◌, ℕ, zero, suc, ◌+◌, ◌-◌, ◌<◌, ◌≤◌, Bool, true, ◌&&◌, ltb, leb, List, [], ◌∷◌, ◌++◌, length, get_or, take, Some, None, Option, refl, ◌∙◌, add-one, arith}
 use Rattle.std.proofs.lemmas.List.{get_or-take, length-take}
 use Rattle.std.proofs.lemmas.Bool.{and_parts, and_from, ltb-true, lt-ltb, leb-true, le-leb}
+use Rattle.std.specs.Prelude.{MatchOption, slice_get}
+use Rattle.std.proofs.lemmas.Option.{slice_get-get_or}
 use Rattle.qbf.specs.Qbf.{variable, every, is_code, rising, formed}
 use Rattle.qbf.specs.Constraints.{last_variable}
 
@@ -12,6 +14,15 @@ last_place (l ∷ []) zero d e = refl
 last_place (l ∷ []) (suc k) d e = absurd (omega arith)
 last_place (l ∷ m ∷ C) zero d e = absurd (omega arith)
 last_place (l ∷ m ∷ C) (suc k) d e = last_place (m ∷ C) k d (omega arith)
+
+-- the last variable, by the last code
+pub last_got : (C : List ℕ) (o : Option ℕ) (r : ℕ) → o ≡ slice_get C (length C - 1) → MatchOption o (r ≡ 0) (λ x. r ≡ variable x) → r ≡ last_variable C
+last_got [] o r e m = let h : MatchOption None (r ≡ 0) (λ x. r ≡ variable x) = rw e at m in h
+last_got (l ∷ C) o r e m =
+    let k : ℕ = length (l ∷ C) - 1 in
+    let s = slice_get-get_or (l ∷ C) k 0 (omega arith) in
+    let h : MatchOption (Some (get_or (l ∷ C) k 0)) (r ≡ 0) (λ x. r ≡ variable x) = rw (e, s) at m in
+    h ∙ last_place (l ∷ C) k 0 (omega arith)
 
 every_push : {X : Type 0} (p : X → Bool) (xs : List X) (x : X) → every p xs ≡ true → p x ≡ true → every p (xs ++ (x ∷ [])) ≡ true
 every_push p [] x e h = and_from (p x) true h refl
@@ -27,7 +38,7 @@ below_last l (m ∷ C) r =
     let b = below_last m C p.1 in
     omega arith
 
-rising_push : (C : List ℕ) (l : ℕ) → rising C ≡ true → last_variable C < variable l → rising (C ++ (l ∷ [])) ≡ true
+pub rising_push : (C : List ℕ) (l : ℕ) → rising C ≡ true → last_variable C < variable l → rising (C ++ (l ∷ [])) ≡ true
 rising_push [] l r h = refl
 rising_push (m ∷ []) l r h = and_from (ltb (variable m) (variable l) && true) true (and_from (ltb (variable m) (variable l)) true (lt-ltb (variable m) (variable l) h) refl) refl
 rising_push (m ∷ n ∷ C) l r h =
@@ -76,10 +87,6 @@ last_code (l ∷ m ∷ C) e = last_code (m ∷ C) (and_parts (is_code l) (every 
 -- a constraint has at most 512 literals
 pub length_most : (C : List ℕ) → formed C ≡ true → length C ≤ 512
 length_most C f = let a = length_below C f in let b = last_code C (and_parts (every is_code C) (rising C) f).0 in omega arith
-
-pub last_none : (C : List ℕ) → length C ≡ 0 → 0 ≡ last_variable C
-last_none [] e = refl
-last_none (l ∷ C) e = absurd (omega arith)
 
 -- there is room below a variable that is above the last
 pub room : (C : List ℕ) (l : ℕ) → formed C ≡ true → is_code l ≡ true → last_variable C < variable l → length C < 512

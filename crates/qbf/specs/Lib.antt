@@ -5,3 +5,4 @@ pub mod Theory
 pub mod Worked
 pub mod Constraints
 pub mod Views
+pub mod Items

@@ -2,6 +2,7 @@
 #![tactic(auto)]
 
 pub mod constraint;
+pub mod item;
 pub mod literal;
 pub mod quantifier;
 pub mod side;

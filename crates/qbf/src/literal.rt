@@ -1,10 +1,17 @@
 //! Literal codes: 2v is the code of variable v, 2v + 1 that of its negation.
 ghost use Rattle.qbf.specs.Literals.{setting_of};
-ghost use Rattle.qbf.specs.Qbf.{complement as flipped, variable as variable_of};
+ghost use Rattle.qbf.specs.Qbf.{complement as flipped, is_code as is_a_code, variable as variable_of};
 ghost use Rattle.std.specs.Prelude.{◌≡◌};
 
 /// The most variables that a prefix can have.
 pub const MOST_VARIABLES: u16 = 512;
+
+/// Whether a number is the code of a literal, from 2 to 1,025.
+pub fn is_code(code: u16) -> bool
+    ensures { result ≡ is_a_code code }
+{
+    (2..=1025).contains(&code)
+}
 
 /// The variable of a code.
 pub fn variable(code: u16) -> u16
@@ -24,12 +31,12 @@ pub fn complement(code: u16) -> u16
 pub fn setting(variable: u16, value: bool) -> Option<u16>
     ensures { result ≡ setting_of variable value }
 {
-    if variable == 0 || variable > MOST_VARIABLES {
+    if !(1..=MOST_VARIABLES).contains(&variable) {
         return None;
     }
-    if value {
-        Some(2 * variable)
+    Some(if value {
+        2 * variable
     } else {
-        Some(2 * variable + 1)
-    }
+        2 * variable + 1
+    })
 }

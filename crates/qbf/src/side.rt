@@ -1,12 +1,12 @@
 //! The side of the clauses and the side of the cubes; every rule is one for both.
 //! The theorems on tables stand in the contracts of these functions.
-ghost use Rattle.qbf.specs.Qbf.{implied as implied_setting, losing, opposite_side, own};
+ghost use Rattle.qbf.specs.Qbf.{implied as implied_setting, losing, opposite_side, own, quantifier_of as the_quantifier};
 ghost use Rattle.qbf.specs.Theory.{AnyChoice, EmptyLoses, Forcing, LawOfSides, Learning, Members, Reducing, Resolving, Strategies};
 ghost use Rattle.qbf.specs.Worked.{Opposites, Reductions, Resolvents, Units, Values};
 ghost use Rattle.std.specs.Prelude.{◌≡◌};
 
 use crate::literal::complement;
-use crate::quantifier::Quantifier;
+use crate::quantifier::{Quantifier, quantifier_of};
 
 /// A clause holds when one of its literals is true, a cube when all are.
 #[derive(Clone, Copy, PartialEq, Eq)]
@@ -41,6 +41,13 @@ impl Side {
             Side::Clause => quantifier == Quantifier::Existential,
             Side::Cube => quantifier == Quantifier::Universal,
         }
+    }
+
+    /// Whether a variable has the side's own quantifier in a prefix.
+    pub fn owns_variable(self, prefix: &[Quantifier], variable: u16) -> bool
+        ensures { result ≡ own self (the_quantifier prefix.now variable) }
+    {
+        self.owns(quantifier_of(prefix, variable))
     }
 
     /// The value at which the side's table is lost. Entailed constraints leave a table's value, and an entailed empty one loses it.

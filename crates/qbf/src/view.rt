@@ -2,6 +2,7 @@
 ghost use Rattle.qbf.specs.Qbf.{formed as is_formed};
 ghost use Rattle.std.specs.Prelude.{◌≡◌, true};
 
+pub mod codes;
 pub mod methods;
 
 /// The codes of a constraint, lent, and whether they are to be read complemented.

@@ -2,12 +2,8 @@
 #![tactic(auto)]
 
 use bitset_database::bitset::BitsetDatabase;
-use calculus::verdict::Verdict;
 use database::complemented::ComplementedDatabase;
-use database::database::Database;
-use faults::fault::Fault;
 use list_database::list::ListDatabase;
-use std::alloc::{AllocError, Global};
 use std::io;
 use trace_run::check::check;
 use trace_run::line::answer_line;
@@ -24,62 +20,40 @@ const WRONG: &[u8; 54] =
 const TRUE: &[u8; 54] =
     b"\x02\x01\x03\x04\x02\x00\x04\x04\x00\x05\x04\x03\x00\x04\x05\x00\x05\x04\x02\x00\x04\x05\x00\x06\x04\x03\x00\x04\x04\x00\x06\x07\x0d\x01\x00\x00\x00\x0f\x10\x0d\x02\x00\x00\x00\x0f\x0e\x03\x00\x00\x00\x01\x00\x10\x13";
 
-fn over<C: Database + Drop, D: Database + Drop>(
-    heap: Global,
-    clauses: C,
-    cubes: D,
-    trace: &[u8],
-) -> Result<Result<Verdict, Fault>, AllocError> {
-    match check(heap, clauses, ComplementedDatabase::new(cubes), trace) {
-        Ok(checked) => Ok(checked.answer),
-        Err(_) => Err(AllocError),
-    }
-}
-
-fn show(rt: &HostRuntime, name: &str, trace: &[u8]) -> io::Result<()> {
-    let mut cells = [0u16; 24];
-    let mut words = [0u64; 79];
-    let answer = over(
-        rt.alloc(),
-        ListDatabase::new(&mut cells),
-        BitsetDatabase::new(&mut words),
-        trace,
-    )?;
-    let line = answer_line(rt.alloc(), answer)?;
-    println!(rt; "{name}: {line}")
-}
-
-fn main(rt: HostRuntime) -> io::Result<()> {
-    show(&rt, "the trace for false", FALSE)?;
-    show(&rt, "closing with true instead", WRONG)?;
-    show(&rt, "the trace for true", TRUE)?;
-    show(&rt, "no trace", &[])?;
-    show(&rt, "the empty clause loaded", b"\x03\x05\x07\x12")?;
-    show(
-        &rt,
-        "one more call after the closing",
-        b"\x03\x05\x07\x12\x12",
-    )?;
-    show(
-        &rt,
-        "an unknown kind after the closing",
-        b"\x03\x05\x07\x12\x00",
-    )?;
-    show(
-        &rt,
-        "a cut body after the closing",
-        b"\x03\x05\x07\x12\x04\x02",
-    )?;
-    show(
-        &rt,
+/// The traces, and what they are.
+const CASES: [(&str, &[u8]); 12] = [
+    ("the trace for false", FALSE),
+    ("closing with true instead", WRONG),
+    ("the trace for true", TRUE),
+    ("no trace", &[]),
+    ("the empty clause loaded", b"\x03\x05\x07\x12"),
+    ("one more call after the closing", b"\x03\x05\x07\x12\x12"),
+    ("an unknown kind after the closing", b"\x03\x05\x07\x12\x00"),
+    ("a cut body after the closing", b"\x03\x05\x07\x12\x04\x02"),
+    (
         "ends unclosed in a derivation",
         b"\x03\x05\x07\x0c\x01\x00\x00\x00",
-    )?;
-    show(&rt, "five cubes in four cells", b"\x03\x06\x06\x06\x06\x06")?;
-    show(
-        &rt,
+    ),
+    ("five cubes in four cells", b"\x03\x06\x06\x06\x06\x06"),
+    (
         "thirteen empty clauses in 24 cells",
         b"\x03\x05\x05\x05\x05\x05\x05\x05\x05\x05\x05\x05\x05\x05",
-    )?;
-    show(&rt, "a literal of no variable", b"\x01\x03\x04\x04\x00")
+    ),
+    ("a literal of no variable", b"\x01\x03\x04\x04\x00"),
+];
+
+fn main(rt: HostRuntime) -> io::Result<()> {
+    'cases: for (name, trace) in CASES {
+        let mut cells = [0u16; 24];
+        let mut words = [0u64; 79];
+        let checked = check(
+            rt.alloc(),
+            ListDatabase::new(&mut cells),
+            ComplementedDatabase::new(BitsetDatabase::new(&mut words)),
+            trace,
+        )?;
+        let line = answer_line(rt.alloc(), checked.answer)?;
+        println!(rt; "{name}: {line}")?;
+    }
+    Ok(())
 }

@@ -1,6 +1,7 @@
 -- One call more, and a list of calls. Assumes nothing.
 use Rattle.std.proofs.Common.{◌≡◌, ℕ, zero, suc, ◌+◌, ◌<◌, List, [], ◌∷◌, map, reverse, length, get_or, take, drop, sym, refl, ap, ◌∙◌, subst}
 use Rattle.std.proofs.lemmas.List.{take_more, reverse-append}
+use Rattle.database.specs.declared.database.Database.{Ghosts}
 use Rattle.database.specs.Meaning.{Meaning}
 use Rattle.calculus.specs.declared.answer.Answer.{Answer}
 use Rattle.calculus.specs.declared.call.Call.{Call}
@@ -15,11 +16,11 @@ one_more : (M N : Meaning) (σ τ : State) (c : Call) (a : Answer) (h : List Eve
 one_more M N σ τ c a h t e p =
     subst (λ x. Happens M N ((c, x) ∷ h) τ) (sym e) (subst (λ x. Happens M N ((c, (step σ c).1) ∷ h) x) (sym t) (called c p))
 
-pub continues : {C D : Type 0} (m : C → Meaning) (n : D → Meaning) (c : Call) (s t : Session C D) (a : Answer) → Does m n c s a t → Continues m n c s a t
-continues m n c s t a d =
-    let on : (M N : Meaning) (h : List Event) → Happens M N h (state_of m n s) → Happens M N ((c, a) ∷ h) (state_of m n t) =
-    λ M N h p. one_more M N (state_of m n s) (state_of m n t) c a h d.state d.answers p in
-    record { history = on; sound = λ M N h p. every_sound M N ((c, a) ∷ h) (state_of m n t) (on M N h p) }
+pub continues : {C D : Type 0} {G : Ghosts C} {H : Ghosts D} (c : Call) (s t : Session C D G H) (a : Answer) → Does c s a t → Continues c s a t
+continues c s t a d =
+    let on : (M N : Meaning) (h : List Event) → Happens M N h (state_of s) → Happens M N ((c, a) ∷ h) (state_of t) =
+    λ M N h p. one_more M N (state_of s) (state_of t) c a h d.state d.answers p in
+    record { history = on; sound = λ M N h p. every_sound M N ((c, a) ∷ h) (state_of t) (on M N h p) }
 
 -- every history that a history went on from is one
 earlier : (M N : Meaning) (k : ℕ) (h : List Event) (σ : State) → Happens M N h σ → (τ : State) × Happens M N (drop k h) τ

@@ -1,4 +1,5 @@
 pub mod Steps
-pub mod Stores
+pub mod Same
+pub mod Clashing
 pub mod Settings
 pub mod Continuing

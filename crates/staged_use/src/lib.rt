@@ -15,10 +15,7 @@ pub(crate) fn load_clause<C: Database, D: Database>(
 ) -> Result<Loading, (Loading, Refusal)> {
     let mut at = at;
     'codes: for code in codes {
-        match at.put(session, *code) {
-            Ok(next) => at = next,
-            Err(back) => return Err(back),
-        }
+        at = at.put(session, *code)?;
     }
     at.load(session, Side::Clause)
 }
@@ -30,19 +27,26 @@ pub(crate) fn load_two<C: Database, D: Database>(
     first: &[u16],
     second: &[u16],
 ) -> Result<Working, (Loading, Refusal)> {
-    match load_clause(session, at, first) {
-        Ok(at) => match load_clause(session, at, second) {
-            Ok(at) => at.end_loading(session),
-            Err(back) => Err(back),
-        },
-        Err(back) => Err(back),
+    let at = load_clause(session, at, first)?;
+    load_clause(session, at, second)?.end_loading(session)
+}
+
+/// The stage that a refusal came in, and the refusal.
+pub(crate) enum Refused {
+    Working(Working, Refusal),
+    Deriving(Deriving, Refusal),
+}
+
+impl From<(Working, Refusal)> for Refused {
+    fn from((at, refusal): (Working, Refusal)) -> Refused {
+        Refused::Working(at, refusal)
     }
 }
 
-/// The stage that a refusal came in.
-pub(crate) enum Left {
-    Working(Working),
-    Deriving(Deriving),
+impl From<(Deriving, Refusal)> for Refused {
+    fn from((at, refusal): (Deriving, Refusal)) -> Refused {
+        Refused::Deriving(at, refusal)
+    }
 }
 
 /// Derives a reduced clause and stores it; tells its number.
@@ -50,15 +54,7 @@ pub(crate) fn store_reduced<C: Database, D: Database>(
     session: &mut Session<C, D>,
     at: Working,
     clause: u64,
-) -> Result<(Working, u64), (Left, Refusal)> {
-    match at.begin(session, Side::Clause, clause) {
-        Ok(at) => match at.reduce(session) {
-            Ok(at) => match at.store(session) {
-                Ok(stored) => Ok(stored),
-                Err((at, refusal)) => Err((Left::Deriving(at), refusal)),
-            },
-            Err((at, refusal)) => Err((Left::Deriving(at), refusal)),
-        },
-        Err((at, refusal)) => Err((Left::Working(at), refusal)),
-    }
+) -> Result<(Working, u64), Refused> {
+    let at = at.begin(session, Side::Clause, clause)?;
+    Ok(at.reduce(session)?.store(session)?)
 }

@@ -1,7 +1,6 @@
 //! The binary trace: records one after the other, each one byte of kind and a body whose length the kind fixes.
 #![tactic(auto)]
 
-pub mod body;
 pub mod front;
 pub mod input;
 pub mod listing;

@@ -44,19 +44,19 @@ impl fmt::Display for Record<'_> {
         let name = self.name();
         match self {
             Record::Literal(bytes) | Record::Decide(bytes) | Record::Undo(bytes) => {
-                let number = bytes.number();
+                let number = u16::from_le_bytes(**bytes);
                 write!(f, "{name} {number}")
             }
             Record::ImplyByClause(bytes)
             | Record::ImplyByCube(bytes)
             | Record::BeginFromClause(bytes)
             | Record::BeginFromCube(bytes) => {
-                let number = bytes.number();
+                let number = u32::from_le_bytes(**bytes);
                 write!(f, "{name} {number}")
             }
-            Record::Resolve(bytes, variable) => {
-                let number = bytes.number();
-                let variable = variable.number();
+            Record::Resolve(number, variable) => {
+                let number = u32::from_le_bytes(**number);
+                let variable = u16::from_le_bytes(**variable);
                 write!(f, "{name} {number} {variable}")
             }
             _ => write!(f, "{name}"),

@@ -1,5 +1,4 @@
-//! A record of a trace: its case is the kind, and it holds the bytes of its body.
-use crate::body::{FourBytes, TwoBytes};
+//! A record of a trace: its case is the kind, and it holds the bytes of its body, as that part of the trace.
 
 #[derive(Clone, Copy)]
 pub enum Record<'a> {
@@ -9,24 +8,24 @@ pub enum Record<'a> {
     Universal,
     EndNaming,
     /// Appends the literal of a code to the working constraint.
-    Literal(TwoBytes<'a>),
+    Literal(&'a [u8; 2]),
     LoadClause,
     LoadCube,
     EndLoading,
     /// Implies by the clause of a number.
-    ImplyByClause(FourBytes<'a>),
+    ImplyByClause(&'a [u8; 4]),
     /// Implies by the cube of a number.
-    ImplyByCube(FourBytes<'a>),
+    ImplyByCube(&'a [u8; 4]),
     /// Decides the literal of a code.
-    Decide(TwoBytes<'a>),
+    Decide(&'a [u8; 2]),
     /// Undoes all but a number of decisions.
-    Undo(TwoBytes<'a>),
+    Undo(&'a [u8; 2]),
     /// Begins a derivation from the clause of a number.
-    BeginFromClause(FourBytes<'a>),
+    BeginFromClause(&'a [u8; 4]),
     /// Begins a derivation from the cube of a number.
-    BeginFromCube(FourBytes<'a>),
+    BeginFromCube(&'a [u8; 4]),
     /// Resolves with the constraint of a number on a variable.
-    Resolve(FourBytes<'a>, TwoBytes<'a>),
+    Resolve(&'a [u8; 4], &'a [u8; 2]),
     Reduce,
     Store,
     Abandon,

@@ -3,6 +3,7 @@
 
 use faults::fault::Fault;
 use std::io;
+use std::iter::repeat_n;
 use trace::input::{MOST, within_limit};
 use trace::listing::last_line;
 use trace::reader::methods::count_records;
@@ -46,12 +47,8 @@ fn show(rt: &HostRuntime, name: &str, input: &[u8]) -> io::Result<()> {
 
 /// A whole record, and then one of the kind with so many bytes of its body.
 fn one_record(rt: &HostRuntime, kind: u8, length: usize) -> io::Result<()> {
-    let mut input = Vec::new(rt.alloc());
-    input.push(0x0f)?;
-    input.push(kind)?;
-    for _ in 0..length {
-        input.push(0x01)?;
-    }
+    let mut input = vec![in rt.alloc(); 0x0f, kind]?;
+    input.extend(repeat_n(0x01, length))?;
     let line = last_line(rt.alloc(), outcome(input.as_slice()))?;
     println!(rt; "kind {kind}, {length} bytes: {line}")
 }
@@ -74,10 +71,9 @@ fn main(rt: HostRuntime) -> io::Result<()> {
     show(&rt, "kind 255 after a close", &[0x12, 0xff, 0x01])?;
     show(&rt, "cut after six records", &SIX_AND_A_CUT)?;
     for (kind, whole) in KINDS {
-        for length in 0..whole {
+        for length in 0..=whole {
             one_record(&rt, kind, length)?;
         }
-        one_record(&rt, kind, whole)?;
     }
     many(&rt, MOST - 1)?;
     many(&rt, MOST)?;

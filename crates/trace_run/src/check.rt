@@ -7,7 +7,7 @@ use calculus::verdict::Verdict;
 use database::database::Database;
 use faults::fault::Fault;
 use session::session::Session;
-use std::alloc::Global;
+use std::alloc::{AllocFailed, Global};
 
 /// The answer to a trace, and both databases as its run left them.
 #[derive(Drop)]
@@ -23,20 +23,15 @@ pub fn check<C: Database, D: Database>(
     clauses: C,
     cubes: D,
     trace: &[u8],
-) -> Result<Checked<C, D>, (C, D)>
-    ensures { MatchResult result (λ k. Checks (C.Database.meaning clauses) (D.Database.meaning cubes) trace.now k.answer (C.Database.meaning k.clauses) (D.Database.meaning k.cubes)) (λ e. (e.0 ≡ clauses) × (e.1 ≡ cubes)) }
+) -> Result<Checked<C, D>, AllocFailed<(C, D)>>
+    ensures { MatchResult result (λ k. Checks (C.Database.meaning clauses) (D.Database.meaning cubes) trace.now k.answer (C.Database.meaning k.clauses) (D.Database.meaning k.cubes)) (λ e. e.value ≡ (clauses, cubes)) }
 {
-    match Session::open(heap, clauses, cubes) {
-        Ok(session) => {
-            let mut session = session;
-            let answer = run(&mut session, trace);
-            let (clauses, cubes) = session.into_databases();
-            Ok(Checked {
-                answer,
-                clauses,
-                cubes,
-            })
-        }
-        Err(back) => Err(back),
-    }
+    let mut session = Session::open(heap, clauses, cubes)?;
+    let answer = run(&mut session, trace);
+    let (clauses, cubes) = session.into_databases();
+    Ok(Checked {
+        answer,
+        clauses,
+        cubes,
+    })
 }

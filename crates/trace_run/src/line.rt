@@ -11,10 +11,7 @@ pub fn answer_line(heap: Global, answer: Result<Verdict, Fault>) -> Result<Strin
     ensures { IfOk result (λ s. string_bytes s ≡ answer_line answer) }
 {
     match answer {
-        Ok(verdict) => match verdict {
-            Verdict::False => format!(in heap; "verdict false"),
-            Verdict::True => format!(in heap; "verdict true"),
-        },
+        Ok(verdict) => format!(in heap; "verdict {verdict}"),
         Err(fault) => format!(in heap; "{fault}"),
     }
 }

@@ -8,7 +8,6 @@ ghost use Rattle.trace_run.specs.Runs.{abandoned, ended, ran};
 use crate::calls::call_of;
 use calculus::answer::Answer;
 use calculus::call::Call;
-use calculus::stage::Stage;
 use calculus::verdict::Verdict;
 use database::database::Database;
 use faults::fault::Fault;
@@ -21,24 +20,19 @@ fn ending<C: Database, D: Database>(
     session: &Session<C, D>,
     reader: &Reader<'_>,
 ) -> Result<Verdict, Fault>
-    ensures { result ≡ ended reader.now.fault (state_of C.Database.meaning D.Database.meaning session.now).stage reader.now.records reader.now.place }
+    ensures { result ≡ ended reader.now.fault (state_of session.now).stage reader.now.records reader.now.place }
 {
-    match reader.outcome() {
-        Err(fault) => Err(fault),
-        Ok(records) => match session.stage() {
-            Stage::Closed(verdict) => Ok(verdict),
-            _ => Err(Fault {
-                refusal: Refusal::Unclosed,
-                record: records + 1,
-                byte: reader.place(),
-            }),
-        },
-    }
+    let records = reader.outcome()?;
+    session.verdict().ok_or(Fault {
+        refusal: Refusal::Unclosed,
+        record: records + 1,
+        byte: reader.place(),
+    })
 }
 
 /// Abandons the derivation, if the session is in one.
 fn leave<C: Database, D: Database>(session: &mut Session<C, D>)
-    ensures { state_of C.Database.meaning D.Database.meaning session.new ≡ abandoned (state_of C.Database.meaning D.Database.meaning session.old) }
+    ensures { state_of session.new ≡ abandoned (state_of session.old) }
 {
     if session.stage().allows(Call::Abandon) {
         let _ = session.apply(Call::Abandon);
@@ -50,11 +44,11 @@ pub fn run<C: Database, D: Database>(
     session: &mut Session<C, D>,
     trace: &[u8],
 ) -> Result<Verdict, Fault>
-    ensures answer { result ≡ (ran (state_of C.Database.meaning D.Database.meaning session.old) trace.now).answer }
-    ensures state { state_of C.Database.meaning D.Database.meaning session.new ≡ (ran (state_of C.Database.meaning D.Database.meaning session.old) trace.now).state }
-    ensures says { verdict_at session.old.stage ≡ None → Says (state_of C.Database.meaning D.Database.meaning session.old) trace.now result }
+    ensures answer { result ≡ (ran (state_of session.old) trace.now).answer }
+    ensures state { state_of session.new ≡ (ran (state_of session.old) trace.now).state }
+    ensures says { verdict_at session.old.stage ≡ None → Says (state_of session.old) trace.now result }
     ensures only { OnlyThose }
-    ensures extends { Extends (state_of C.Database.meaning D.Database.meaning session.old) trace.now (state_of C.Database.meaning D.Database.meaning session.new) }
+    ensures extends { Extends (state_of session.old) trace.now (state_of session.new) }
 {
     let mut reader = Reader::new(trace);
     'records: loop {

@@ -2,7 +2,6 @@
 #![tactic(auto)]
 
 use bitset_database::bitset::BitsetDatabase;
-use calculus::answer::Answer;
 use calculus::call::Call;
 use calculus::verdict::Verdict;
 use database::complemented::ComplementedDatabase;
@@ -10,7 +9,7 @@ use database::database::Database;
 use list_database::list::ListDatabase;
 use qbf::quantifier::Quantifier;
 use qbf::side::Side;
-use session::session::Session;
+use session::session::replay::replay;
 use std::io;
 
 /// Variable 1 existential, 2 universal; clauses {2,4} and {3,5}, cubes {2,5} and {3,4}.
@@ -65,17 +64,6 @@ const DERIVING: [(&str, Call); 16] = [
     ("close false", Call::Close(Verdict::False)),
 ];
 
-fn tell(rt: &HostRuntime, name: &str, answer: Answer) -> io::Result<()> {
-    match answer {
-        Answer::Taken => println!(rt; "{name}: taken"),
-        Answer::Stored(number) => println!(rt; "{name}: stored as {number}"),
-        Answer::Refused(refusal) => {
-            let number = refusal.number();
-            println!(rt; "{name}: refused {number}")
-        }
-    }
-}
-
 /// Loads the question and makes the calls.
 fn cases<C: Database + Drop, D: Database + Drop>(
     rt: &HostRuntime,
@@ -83,27 +71,14 @@ fn cases<C: Database + Drop, D: Database + Drop>(
     cubes: D,
     calls: &[(&str, Call)],
 ) -> io::Result<()> {
-    let Ok(session) = Session::open(rt.alloc(), clauses, cubes) else {
+    let Ok(mut session) = replay(rt.alloc(), clauses, cubes, &QUESTION) else {
         return println!(rt; "no memory");
     };
-    let mut session = session;
-    'loading: for call in QUESTION {
-        let _ = session.apply(call);
-    }
     'calls: for (name, call) in calls {
-        tell(rt, name, session.apply(*call))?;
+        let answer = session.apply(*call);
+        println!(rt; "{name}: {answer}")?;
     }
     Ok(())
-}
-
-/// The same, with a complementing layer over the cubes' database.
-fn layered<C: Database + Drop, D: Database + Drop>(
-    rt: &HostRuntime,
-    clauses: C,
-    below: D,
-    calls: &[(&str, Call)],
-) -> io::Result<()> {
-    cases(rt, clauses, ComplementedDatabase::new(below), calls)
 }
 
 fn main(rt: HostRuntime) -> io::Result<()> {
@@ -119,10 +94,10 @@ fn main(rt: HostRuntime) -> io::Result<()> {
     let mut cells = [0u16; 64];
     let mut words = [0u64; 48];
     println!(rt; "over a list and a layer over a bitset")?;
-    layered(
+    cases(
         &rt,
         ListDatabase::new(&mut cells),
-        BitsetDatabase::new(&mut words),
+        ComplementedDatabase::new(BitsetDatabase::new(&mut words)),
         &DERIVING,
     )
 }

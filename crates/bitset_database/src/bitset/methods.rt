@@ -1,15 +1,36 @@
 //! The methods of `BitsetDatabase`, and that it is a `Database`.
-ghost use Rattle.std.specs.Prelude.{◌≡◌, ◌*◌, ◌/◌, ◌<◌, ◌≤◌, min, true, false, [], length as the_length, slice_set};
+ghost use Rattle.std.specs.Prelude.{◌≡◌, ◌*◌, ◌/◌, ◌≤◌, min, true, false, [], is_ok, length as the_length, option_map};
 ghost use Rattle.bitset_database.specs.Database.{lawful_of, meaning_of};
-ghost use Rattle.bitset_database.specs.Table.{Beside, Stored};
+ghost use Rattle.bitset_database.specs.Table.{Stored};
 ghost use Rattle.bitset_rows.specs.Rows.{row};
-ghost use Rattle.database.specs.Meaning.{Adds, emptied};
+ghost use Rattle.database.specs.Meaning.{Adds, emptied, numbered};
 ghost use Rattle.qbf.specs.Views.{viewed};
 
 use super::BitsetDatabase;
-use crate::select::select;
-use database::database::Database;
+use crate::select::{count_set, select};
+use database::database::{Database, Full};
+use qbf::item::index;
 use qbf::view::ConstraintView;
+
+/// The row of a constraint: 16 words in which the bits of its codes are set, and no other.
+#[tactic(auto, using(qbf::proofs::Views::code_left))]
+fn row_of(constraint: ConstraintView<'_>) -> [u64; 16]
+    ensures { row result 0 ≡ viewed constraint.entry }
+{
+    let mut words = [0; 16];
+    for code in constraint.codes() {
+        let bit = usize::from(code) - 2;
+        words[bit / 64] |= 1 << (bit % 64);
+    }
+    words
+}
+
+/// How many codes a row holds.
+fn size(words: &[u64; 16]) -> u32
+    ensures { result ≡ the_length (row words.now 0) }
+{
+    count_set(words)
+}
 
 impl<'a> BitsetDatabase<'a> {
     /// The empty table in lent memory: its cells in all are the whole cells of 16 words lent, at most 65,535. Nothing is written.
@@ -20,8 +41,7 @@ impl<'a> BitsetDatabase<'a> {
         ensures unchanged { result.words.now ≡ words.old }
         ensures lent { result.words.ghost_name ≡ words.entry.ghost_name }
     {
-        let lent = words.len() / 16;
-        let total = if lent < 65535 { lent } else { 65535 };
+        let total = (words.len() / 16).min(65535);
         BitsetDatabase {
             words,
             total,
@@ -29,52 +49,12 @@ impl<'a> BitsetDatabase<'a> {
         }
     }
 
-    /// Writes one word behind the rows that are in use.
-    fn put(&mut self, i: usize, word: u64)
-        requires free { 16 * self.old.count ≤ i }
-        requires within { i < the_length self.old.words.now }
-        ensures words { self.new.words.now ≡ slice_set self.old.words.now i word }
-        ensures lent { self.new.words.ghost_name ≡ self.old.words.ghost_name }
-        ensures total { self.new.total ≡ self.old.total }
-        ensures count { self.new.count ≡ self.old.count }
+    /// The words of the row of the constraint with a number.
+    fn row(&self, number: u64) -> Option<&[u64; 16]>
+        ensures { option_map (λ words. row words.now 0) result ≡ numbered (meaning_of self.now).list number }
     {
-        self.words[i] = word;
-    }
-
-    /// Clears the row behind those that are in use.
-    fn clear(&mut self)
-        requires { self.old.count < self.old.total }
-        ensures cleared { row self.new.words.now self.old.count ≡ [] }
-        ensures beside { Beside self.old.words.now self.new.words.now self.old.count }
-        ensures lent { self.new.words.ghost_name ≡ self.old.words.ghost_name }
-        ensures total { self.new.total ≡ self.old.total }
-        ensures count { self.new.count ≡ self.old.count }
-    {
-        let start = 16 * self.count;
-        for i in 0..16 {
-            self.put(start + i, 0);
-        }
-    }
-
-    /// Writes the codes of a constraint into the row behind those that are in use.
-    fn write(&mut self, constraint: ConstraintView<'_>)
-        requires { self.old.count < self.old.total }
-        ensures stored { Stored self.old.words.now self.new.words.now self.old.count (viewed constraint.entry) }
-        ensures lent { self.new.words.ghost_name ≡ self.old.words.ghost_name }
-        ensures total { self.new.total ≡ self.old.total }
-        ensures count { self.new.count ≡ self.old.count }
-    {
-        let start = 16 * self.count;
-        self.clear();
-        for i in 0..constraint.len() {
-            let Some(code) = constraint.code(i + 1) else {
-                unreachable()
-            };
-            let bit = code as usize - 2;
-            let at = start + bit / 64;
-            let word = self.words[at];
-            self.put(at, word | 1 << (bit % 64));
-        }
+        let start = 16 * index(number, self.count)?;
+        self.words[start..].first_chunk()
     }
 }
 
@@ -91,19 +71,20 @@ impl<'a> Database for BitsetDatabase<'a> {
         self.count = 0;
     }
 
-    fn add(&mut self, constraint: ConstraintView<'_>) -> bool
+    fn add(&mut self, constraint: ConstraintView<'_>) -> Result<(), Full>
         ensures adds { Adds (meaning_of self.old) (viewed constraint.entry) result (meaning_of self.new) }
-        ensures refused { result ≡ false → self.new ≡ self.old }
-        ensures stored { result ≡ true → Stored self.old.words.now self.new.words.now self.old.count (viewed constraint.entry) }
-        ensures unchanged { result ≡ false → self.new.words.now ≡ self.old.words.now }
+        ensures refused { is_ok result ≡ false → self.new ≡ self.old }
+        ensures stored { is_ok result ≡ true → Stored self.old.words.now self.new.words.now self.old.count (viewed constraint.entry) }
+        ensures unchanged { is_ok result ≡ false → self.new.words.now ≡ self.old.words.now }
         ensures lent { self.new.words.ghost_name ≡ self.old.words.ghost_name }
     {
         if self.count == self.total {
-            return false;
+            return Err(Full);
         }
-        self.write(constraint);
+        let start = 16 * self.count;
+        self.words[start..start + 16].copy_from_slice(&row_of(constraint));
         self.count += 1;
-        true
+        Ok(())
     }
 
     fn count(&self) -> u64 {
@@ -111,30 +92,16 @@ impl<'a> Database for BitsetDatabase<'a> {
     }
 
     fn length(&self, number: u64) -> Option<u32> {
-        let number = number as usize;
-        if number == 0 || number > self.count {
-            return None;
-        }
-        let start = 16 * (number - 1);
-        let mut ones = 0;
-        for i in 0..16usize {
-            ones += self.words[start + i].count_ones();
-        }
-        Some(ones)
+        Some(size(self.row(number)?))
     }
 
     fn code(&self, number: u64, place: u32) -> Option<u16> {
-        let number = number as usize;
-        if number == 0 || number > self.count || place == 0 {
-            return None;
-        }
-        let start = 16 * (number - 1);
-        let mut left = place;
-        for i in 0..16usize {
-            let word = self.words[start + i];
+        let words = self.row(number)?;
+        let mut left = place.checked_sub(1)?;
+        for (i, word) in words.iter().enumerate() {
             let ones = word.count_ones();
-            if left <= ones {
-                return Some(64 * i as u16 + select(word, left) as u16 + 2);
+            if left < ones {
+                return Some(64 * i as u16 + select(*word, left) as u16 + 2);
             }
             left -= ones;
         }
@@ -146,6 +113,6 @@ impl<'a> Database for BitsetDatabase<'a> {
     }
 
     fn cost(&self, size: u32) -> Option<u32> {
-        if size > 512 { None } else { Some(1) }
+        (size <= 512).then_some(1)
     }
 }

@@ -2,5 +2,5 @@
 use Rattle.trace.specs.Readers.{to_go}
 use Rattle.list_trace.proofs.list.Given as goal
 
-abbrev pub decreases-records : goal.decreases-records
-decreases-records l = to_go l.reader
+abbrev pub decreases-loop-record : goal.decreases-loop-record
+decreases-loop-record l = to_go l.reader

@@ -1,13 +1,15 @@
 //! The methods of `Trail`.
 ghost use Rattle.std.specs.Prelude.{◌≡◌, ◌<◌, true, false, [], ◌∷◌, ◌++◌, length, take, IfOk, MatchOption, nat_lt};
 ghost use Rattle.calculus.specs.State.{cut, decisions as decisions_on, literals};
-ghost use Rattle.operations.specs.Entries.{decides, entries_of, entry_at};
+ghost use Rattle.operations.specs.Entries.{entries_of, entry_at};
 ghost use Rattle.operations.specs.Trails.{Appends, Undoes, trail_of};
 ghost use Rattle.qbf.specs.Qbf.{has, is_set};
 
-use super::Trail;
+use super::{NotAppended, Trail};
 use crate::entry::{Cause, Entry};
-use qbf::literal::variable as variable_of;
+use faults::refusal::Refusal;
+use qbf::item::item;
+use qbf::literal::{is_code, variable as variable_of};
 use std::alloc::{AllocError, Global};
 
 impl Trail {
@@ -16,8 +18,10 @@ impl Trail {
         ensures { IfOk result (λ t. trail_of t ≡ []) }
     {
         let entries = Vec::with_capacity(heap, 512)?;
-        let truth = vec![in heap; false; 1026]?;
-        Ok(Trail { entries, truth })
+        Ok(Trail {
+            entries,
+            truth: [false; 1026],
+        })
     }
 
     /// How many entries there are.
@@ -31,52 +35,44 @@ impl Trail {
     pub fn entry(&self, place: usize) -> Option<Entry>
         ensures { result ≡ entry_at self.now.entries.items place }
     {
-        if place == 0 || place > self.entries.len() {
-            None
-        } else {
-            Some(self.entries[place - 1])
-        }
+        item(self.entries.as_slice(), place)
     }
 
     /// Whether a literal is set, by its code as a place of the table.
     fn at(&self, code: usize) -> bool
         ensures { result ≡ has (literals (trail_of self.now)) code }
     {
-        if code < self.truth.len() {
-            self.truth[code]
-        } else {
-            false
-        }
+        self.truth.get(code).copied().unwrap_or(false)
     }
 
     /// Whether a literal is set.
     pub fn holds(&self, code: u16) -> bool
         ensures { result ≡ has (literals (trail_of self.now)) code }
     {
-        self.at(code as usize)
+        self.at(usize::from(code))
     }
 
     /// Whether a variable is set.
     pub fn is_set(&self, variable: u16) -> bool
         ensures { result ≡ is_set (literals (trail_of self.now)) variable }
     {
-        let first = 2 * variable as usize;
+        let first = 2 * usize::from(variable);
         self.at(first) || self.at(first + 1)
     }
 
-    /// Appends an entry; false where its code is none or its variable is set, and then nothing changes.
-    pub fn push(&mut self, item: Entry) -> bool
-        ensures { Appends self.old item result self.new }
+    /// Appends an entry, or refuses it and changes nothing.
+    pub fn push(&mut self, entry: Entry) -> Result<(), NotAppended>
+        ensures { Appends self.old entry result self.new }
     {
-        if item.code < 2 || item.code > 1025 {
-            return false;
+        if !is_code(entry.code) {
+            return Err(NotAppended::NoCode);
         }
-        if self.is_set(variable_of(item.code)) {
-            return false;
+        if self.is_set(variable_of(entry.code)) {
+            return Err(NotAppended::VariableSet);
         }
-        self.truth[item.code as usize] = true;
-        self.entries.push_reserved(item);
-        true
+        self.truth[usize::from(entry.code)] = true;
+        self.entries.push_reserved(entry);
+        Ok(())
     }
 
     /// Takes the last entry away.
@@ -85,7 +81,7 @@ impl Trail {
         ensures { (e : Entry) × (self.old.entries.items ≡ self.new.entries.items ++ e ∷ []) }
     {
         let last = self.entries.take_last();
-        self.truth[last.code as usize] = false;
+        self.truth[usize::from(last.code)] = false;
     }
 
     /// Keeps the first entries, at most so many.
@@ -101,39 +97,20 @@ impl Trail {
     fn boundary(&self, decisions: u16) -> Option<usize>
         ensures { MatchOption result (nat_lt decisions (decisions_on (trail_of self.now)) ≡ false) (λ place. (nat_lt decisions (decisions_on (trail_of self.now)) ≡ true) × (entries_of (take place self.now.entries.items) ≡ cut decisions (trail_of self.now))) }
     {
-        let mut more = decisions;
-        'entries: for place in 0..self.entries.len() {
-            let item = self.entries[place];
-            if is_decision(item.cause) {
-                if more == 0 {
-                    return Some(place);
-                }
-                more -= 1;
-            }
-        }
-        None
+        self.entries
+            .iter()
+            .enumerate()
+            .filter(|(_, entry)| matches!(entry.cause, Cause::Decided))
+            .map(|(place, _)| place)
+            .nth(usize::from(decisions))
     }
 
-    /// Keeps so many decisions and cuts the trail just before the next one; false where there is no next one, and then nothing changes.
-    pub fn undo(&mut self, decisions: u16) -> bool
+    /// Keeps so many decisions and cuts the trail just before the next one; refuses where there is no next one, and then nothing changes.
+    pub fn undo(&mut self, decisions: u16) -> Result<(), Refusal>
         ensures { Undoes self.old decisions result self.new }
     {
-        match self.boundary(decisions) {
-            Some(place) => {
-                self.truncate(place);
-                true
-            }
-            None => false,
-        }
-    }
-}
-
-/// Whether an entry of the cause is a decision.
-fn is_decision(cause: Cause) -> bool
-    ensures { result ≡ decides cause }
-{
-    match cause {
-        Cause::Decided => true,
-        Cause::Implied(_, _) => false,
+        let place = self.boundary(decisions).ok_or(Refusal::KeepsEveryDecision)?;
+        self.truncate(place);
+        Ok(())
     }
 }

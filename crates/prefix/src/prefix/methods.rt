@@ -5,7 +5,9 @@ ghost use Rattle.qbf.specs.Qbf.{quantifier_of as the_quantifier};
 ghost use Rattle.prefix.specs.Prefixes.{Names, quantifiers_of};
 
 use super::Prefix;
-use qbf::quantifier::Quantifier;
+use faults::refusal::Refusal;
+use qbf::literal::MOST_VARIABLES;
+use qbf::quantifier::{Quantifier, quantifier_of};
 use std::alloc::{AllocError, Global};
 
 impl Prefix {
@@ -13,7 +15,7 @@ impl Prefix {
     pub fn new(heap: Global) -> Result<Prefix, AllocError>
         ensures { IfOk result (λ p. quantifiers_of p ≡ []) }
     {
-        let quantifiers = Vec::with_capacity(heap, 512)?;
+        let quantifiers = Vec::with_capacity(heap, usize::from(MOST_VARIABLES))?;
         Ok(Prefix { quantifiers })
     }
 
@@ -29,19 +31,14 @@ impl Prefix {
     pub fn names(&self, variable: u16) -> bool
         ensures { result ≡ is_named (quantifiers_of self.now) variable }
     {
-        variable >= 1 && usize::from(variable) <= self.quantifiers.len()
+        (1..=self.quantifiers.len()).contains(&usize::from(variable))
     }
 
     /// The quantifier of a variable; existential where it is not named.
     pub fn quantifier(&self, variable: u16) -> Quantifier
         ensures { result ≡ the_quantifier (quantifiers_of self.now) variable }
     {
-        let index = usize::from(variable).saturating_sub(1);
-        if index < self.quantifiers.len() {
-            self.quantifiers[index]
-        } else {
-            Quantifier::Existential
-        }
+        quantifier_of(self.as_slice(), variable)
     }
 
     /// The quantifiers, that of variable 1 first.
@@ -51,14 +48,14 @@ impl Prefix {
         self.quantifiers.as_slice()
     }
 
-    /// Names the next variable; false where there are 512 already, and then nothing changes.
-    pub fn push(&mut self, quantifier: Quantifier) -> bool
+    /// Names the next variable; refused where there are 512 already, and then nothing changes.
+    pub fn push(&mut self, quantifier: Quantifier) -> Result<(), Refusal>
         ensures { Names self.old quantifier result self.new }
     {
-        if self.quantifiers.len() >= 512 {
-            return false;
+        if self.quantifiers.len() >= usize::from(MOST_VARIABLES) {
+            return Err(Refusal::TooManyVariables);
         }
         self.quantifiers.push_reserved(quantifier);
-        true
+        Ok(())
     }
 }

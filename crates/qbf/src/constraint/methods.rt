@@ -4,7 +4,8 @@ ghost use Rattle.qbf.specs.Constraints.{Pushes, code_at, codes_of, last_variable
 ghost use Rattle.qbf.specs.Worked.{Forms};
 
 use super::{Constraint, NotPushed};
-use crate::literal::variable;
+use crate::item::item;
+use crate::literal::{is_code, variable};
 use std::alloc::{AllocError, Global};
 
 impl Constraint {
@@ -26,7 +27,7 @@ impl Constraint {
     }
 
     /// The codes.
-    pub(crate) fn as_slice(&self) -> &[u16]
+    pub fn as_slice(&self) -> &[u16]
         ensures { result.now ≡ codes_of self.now }
     {
         self.codes.as_slice()
@@ -36,30 +37,21 @@ impl Constraint {
     pub fn code(&self, place: usize) -> Option<u16>
         ensures { result ≡ code_at (codes_of self.now) place }
     {
-        if place == 0 || place > self.codes.len() {
-            None
-        } else {
-            Some(self.codes[place - 1])
-        }
+        item(self.codes.as_slice(), place)
     }
 
     /// The variable of the last literal, and 0 where there is none.
     fn last_variable(&self) -> u16
         ensures { result ≡ last_variable (codes_of self.now) }
     {
-        let n = self.codes.len();
-        if n == 0 {
-            0
-        } else {
-            variable(self.codes[n - 1])
-        }
+        self.codes.last().copied().map_or(0, variable)
     }
 
     /// Adds a literal at the end, or refuses it and changes nothing.
     pub fn push(&mut self, code: u16) -> Result<(), NotPushed>
         ensures { Pushes self.old code result self.new }
     {
-        if code < 2 || code > 1025 {
+        if !is_code(code) {
             return Err(NotPushed::NoCode);
         }
         if variable(code) <= self.last_variable() {

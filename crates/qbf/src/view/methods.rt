@@ -2,10 +2,11 @@
 ghost use Rattle.std.specs.Prelude.{◌≡◌, ◌≤◌, map, length};
 ghost use Rattle.qbf.specs.Constraints.{code_at, codes_of};
 ghost use Rattle.qbf.specs.Qbf.{complement as flipped};
-ghost use Rattle.qbf.specs.Views.{viewed};
+ghost use Rattle.qbf.specs.Views.{shown_code, viewed};
 
 use super::ConstraintView;
 use crate::constraint::Constraint;
+use crate::item::item;
 use crate::literal::complement;
 
 impl Constraint {
@@ -31,6 +32,17 @@ impl<'a> ConstraintView<'a> {
         }
     }
 
+    /// A code of the constraint as it is to be read.
+    pub(super) fn shown(self, code: u16) -> u16
+        ensures { result ≡ shown_code self.entry.complemented code }
+    {
+        if self.complemented {
+            complement(code)
+        } else {
+            code
+        }
+    }
+
     /// How many literals there are.
     pub fn len(self) -> usize
         ensures value { result ≡ length (viewed self.entry) }
@@ -43,14 +55,6 @@ impl<'a> ConstraintView<'a> {
     pub fn code(self, place: usize) -> Option<u16>
         ensures { result ≡ code_at (viewed self.entry) place }
     {
-        if place == 0 || place > self.codes.len() {
-            return None;
-        }
-        let code = self.codes[place - 1];
-        if self.complemented {
-            Some(complement(code))
-        } else {
-            Some(code)
-        }
+        Some(self.shown(item(self.codes, place)?))
     }
 }

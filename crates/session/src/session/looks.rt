@@ -16,32 +16,30 @@ use qbf::quantifier::Quantifier;
 impl<C: Database, D: Database> Session<C, D> {
     /// How many variables are named.
     pub fn variables(&self) -> usize
-        ensures { result ≡ the_length (state_of C.Database.meaning D.Database.meaning self.now).prefix }
+        ensures { result ≡ the_length (state_of self.now).prefix }
     {
         self.prefix.len()
     }
 
     /// The quantifier of a variable; none where it is not named.
     pub fn quantifier(&self, variable: u16) -> Option<Quantifier>
-        ensures { result ≡ quantifier_at (state_of C.Database.meaning D.Database.meaning self.now).prefix variable }
+        ensures { result ≡ quantifier_at (state_of self.now).prefix variable }
     {
-        if self.prefix.names(variable) {
-            Some(self.prefix.quantifier(variable))
-        } else {
-            None
-        }
+        self.prefix
+            .names(variable)
+            .then(|| self.prefix.quantifier(variable))
     }
 
     /// The stage.
     pub fn stage(&self) -> Stage
-        ensures { result ≡ (state_of C.Database.meaning D.Database.meaning self.now).stage }
+        ensures { result ≡ (state_of self.now).stage }
     {
         self.stage
     }
 
     /// How many literals are set.
     pub fn trail_length(&self) -> usize
-        ensures { result ≡ the_length (state_of C.Database.meaning D.Database.meaning self.now).trail }
+        ensures { result ≡ the_length (state_of self.now).trail }
     {
         self.trail.len()
     }
@@ -55,14 +53,14 @@ impl<C: Database, D: Database> Session<C, D> {
 
     /// How many literals the working constraint has.
     pub fn working_length(&self) -> usize
-        ensures { result ≡ the_length (state_of C.Database.meaning D.Database.meaning self.now).working }
+        ensures { result ≡ the_length (state_of self.now).working }
     {
         self.working.len()
     }
 
     /// The code at a place of the working constraint, counted from 1; none where there is none.
     pub fn working_code(&self, place: usize) -> Option<u16>
-        ensures { result ≡ code_at (state_of C.Database.meaning D.Database.meaning self.now).working place }
+        ensures { result ≡ code_at (state_of self.now).working place }
     {
         self.working.code(place)
     }
@@ -83,7 +81,7 @@ impl<C: Database, D: Database> Session<C, D> {
 
     /// The verdict, once the session is closed.
     pub fn verdict(&self) -> Option<Verdict>
-        ensures { result ≡ verdict_at (state_of C.Database.meaning D.Database.meaning self.now).stage }
+        ensures { result ≡ verdict_at (state_of self.now).stage }
     {
         match self.stage {
             Stage::Closed(verdict) => Some(verdict),

@@ -6,7 +6,7 @@ ghost use Rattle.std.specs.Prelude.{◌≡◌, MatchResult};
 use super::Session;
 use calculus::call::Call;
 use database::database::Database;
-use std::alloc::Global;
+use std::alloc::{AllocFailed, Global};
 
 /// Opens a session over any two databases and makes all the calls, failing ones among them. What holds of every history holds after every one of them.
 pub fn replay<C: Database, D: Database>(
@@ -14,13 +14,10 @@ pub fn replay<C: Database, D: Database>(
     clauses: C,
     cubes: D,
     calls: &[Call],
-) -> Result<Session<C, D>, (C, D)>
-    ensures { MatchResult result (λ s. Replayed (C.Database.meaning clauses) (D.Database.meaning cubes) calls.now (state_of C.Database.meaning D.Database.meaning s)) (λ e. (e.0 ≡ clauses) × (e.1 ≡ cubes)) }
+) -> Result<Session<C, D>, AllocFailed<(C, D)>>
+    ensures { MatchResult result (λ s. Replayed (C.Database.meaning clauses) (D.Database.meaning cubes) calls.now (state_of s)) (λ e. e.value ≡ (clauses, cubes)) }
 {
-    let mut session = match Session::open(heap, clauses, cubes) {
-        Ok(session) => session,
-        Err(back) => return Err(back),
-    };
+    let mut session = Session::open(heap, clauses, cubes)?;
     'calls: for call in calls {
         let _ = session.apply(*call);
     }

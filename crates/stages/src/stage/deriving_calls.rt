@@ -1,8 +1,8 @@
 //! The calls of Deriving.
 ghost use Rattle.calculus.specs.declared.call.Call.TheVariants.{Abandon, Reduce, Resolve, Store};
 ghost use Rattle.session.specs.States.{Does};
-ghost use Rattle.stages.specs.Answers.{told, told_number};
-ghost use Rattle.std.specs.Prelude.{◌≡◌, Ok, Err};
+ghost use Rattle.stages.specs.Answers.{Numbers, told, told_number};
+ghost use Rattle.std.specs.Prelude.{◌≡◌, MatchResult};
 
 use super::{Deriving, Working};
 use database::database::Database;
@@ -17,14 +17,10 @@ impl Deriving {
         constraint: u64,
         variable: u16,
     ) -> Result<Deriving, (Deriving, Refusal)>
-        ensures numbered { elim result [ Ok t ↦ t.0 ≡ self.0 | Err e ↦ e.0.0 ≡ self.0 ] }
-        ensures does { Does C.Database.meaning D.Database.meaning (Resolve constraint variable) session.old (told result) session.new }
+        ensures numbered { Numbers self.number result }
+        ensures does { Does (Resolve constraint variable) session.old (told result) session.new }
     {
-        let Deriving(number) = self;
-        match session.resolve(constraint, variable) {
-            Ok(()) => Ok(Deriving(number)),
-            Err(refusal) => Err((Deriving(number), refusal)),
-        }
+        self.hand_on(session.resolve(constraint, variable))
     }
 
     /// Reduces the working constraint.
@@ -32,14 +28,10 @@ impl Deriving {
         self,
         session: &mut Session<C, D>,
     ) -> Result<Deriving, (Deriving, Refusal)>
-        ensures numbered { elim result [ Ok t ↦ t.0 ≡ self.0 | Err e ↦ e.0.0 ≡ self.0 ] }
-        ensures does { Does C.Database.meaning D.Database.meaning Reduce session.old (told result) session.new }
+        ensures numbered { Numbers self.number result }
+        ensures does { Does Reduce session.old (told result) session.new }
     {
-        let Deriving(number) = self;
-        match session.reduce() {
-            Ok(()) => Ok(Deriving(number)),
-            Err(refusal) => Err((Deriving(number), refusal)),
-        }
+        self.hand_on(session.reduce())
     }
 
     /// Adds the working constraint to the derivation's database, tells its number, and ends the derivation.
@@ -47,13 +39,12 @@ impl Deriving {
         self,
         session: &mut Session<C, D>,
     ) -> Result<(Working, u64), (Deriving, Refusal)>
-        ensures numbered { elim result [ Ok t ↦ t.0.0 ≡ self.0 | Err e ↦ e.0.0 ≡ self.0 ] }
-        ensures does { Does C.Database.meaning D.Database.meaning Store session.old (told_number result) session.new }
+        ensures numbered { MatchResult result (λ t. t.0.number ≡ self.number) (λ e. e.0.number ≡ self.number) }
+        ensures does { Does Store session.old (told_number result) session.new }
     {
-        let Deriving(number) = self;
         match session.store() {
-            Ok(stored) => Ok((Working(number), stored)),
-            Err(refusal) => Err((Deriving(number), refusal)),
+            Ok(stored) => Ok((self.next(), stored)),
+            Err(refusal) => Err((self, refusal)),
         }
     }
 
@@ -62,13 +53,9 @@ impl Deriving {
         self,
         session: &mut Session<C, D>,
     ) -> Result<Working, (Deriving, Refusal)>
-        ensures numbered { elim result [ Ok t ↦ t.0 ≡ self.0 | Err e ↦ e.0.0 ≡ self.0 ] }
-        ensures does { Does C.Database.meaning D.Database.meaning Abandon session.old (told result) session.new }
+        ensures numbered { Numbers self.number result }
+        ensures does { Does Abandon session.old (told result) session.new }
     {
-        let Deriving(number) = self;
-        match session.abandon() {
-            Ok(()) => Ok(Working(number)),
-            Err(refusal) => Err((Deriving(number), refusal)),
-        }
+        self.hand_on(session.abandon())
     }
 }

@@ -1,8 +1,7 @@
 //! The calls of Loading.
 ghost use Rattle.calculus.specs.declared.call.Call.TheVariants.{EndLoading, Load, Put};
 ghost use Rattle.session.specs.States.{Does};
-ghost use Rattle.stages.specs.Answers.{told};
-ghost use Rattle.std.specs.Prelude.{◌≡◌, Ok, Err};
+ghost use Rattle.stages.specs.Answers.{Numbers, told};
 
 use super::{Loading, Working};
 use database::database::Database;
@@ -17,14 +16,10 @@ impl Loading {
         session: &mut Session<C, D>,
         code: u16,
     ) -> Result<Loading, (Loading, Refusal)>
-        ensures numbered { elim result [ Ok t ↦ t.0 ≡ self.0 | Err e ↦ e.0.0 ≡ self.0 ] }
-        ensures does { Does C.Database.meaning D.Database.meaning (Put code) session.old (told result) session.new }
+        ensures numbered { Numbers self.number result }
+        ensures does { Does (Put code) session.old (told result) session.new }
     {
-        let Loading(number) = self;
-        match session.put(code) {
-            Ok(()) => Ok(Loading(number)),
-            Err(refusal) => Err((Loading(number), refusal)),
-        }
+        self.hand_on(session.put(code))
     }
 
     /// Adds the working constraint to a side's database, and empties it.
@@ -33,14 +28,10 @@ impl Loading {
         session: &mut Session<C, D>,
         side: Side,
     ) -> Result<Loading, (Loading, Refusal)>
-        ensures numbered { elim result [ Ok t ↦ t.0 ≡ self.0 | Err e ↦ e.0.0 ≡ self.0 ] }
-        ensures does { Does C.Database.meaning D.Database.meaning (Load side) session.old (told result) session.new }
+        ensures numbered { Numbers self.number result }
+        ensures does { Does (Load side) session.old (told result) session.new }
     {
-        let Loading(number) = self;
-        match session.load(side) {
-            Ok(()) => Ok(Loading(number)),
-            Err(refusal) => Err((Loading(number), refusal)),
-        }
+        self.hand_on(session.load(side))
     }
 
     /// Ends loading; working begins.
@@ -48,13 +39,9 @@ impl Loading {
         self,
         session: &mut Session<C, D>,
     ) -> Result<Working, (Loading, Refusal)>
-        ensures numbered { elim result [ Ok t ↦ t.0 ≡ self.0 | Err e ↦ e.0.0 ≡ self.0 ] }
-        ensures does { Does C.Database.meaning D.Database.meaning EndLoading session.old (told result) session.new }
+        ensures numbered { Numbers self.number result }
+        ensures does { Does EndLoading session.old (told result) session.new }
     {
-        let Loading(number) = self;
-        match session.end_loading() {
-            Ok(()) => Ok(Working(number)),
-            Err(refusal) => Err((Loading(number), refusal)),
-        }
+        self.hand_on(session.end_loading())
     }
 }

@@ -2,15 +2,15 @@
 ghost use Rattle.calculus.specs.declared.call.Call.TheVariants.{EndNaming, Name};
 ghost use Rattle.calculus.specs.State.{opening};
 ghost use Rattle.session.specs.States.{Does, state_of};
-ghost use Rattle.stages.specs.Answers.{told};
-ghost use Rattle.std.specs.Prelude.{◌≡◌, Ok, Err, MatchResult};
+ghost use Rattle.stages.specs.Answers.{Numbers, told};
+ghost use Rattle.std.specs.Prelude.{◌≡◌, MatchResult};
 
-use super::{Loading, Naming};
+use super::{Loading, Naming, Stage};
 use database::database::Database;
 use faults::refusal::Refusal;
 use qbf::quantifier::Quantifier;
 use session::session::Session;
-use std::alloc::Global;
+use std::alloc::{AllocFailed, Global};
 
 impl Naming {
     /// Opens a session with a number of the caller's choice, and empties both databases. Want of memory hands both back as they came.
@@ -19,13 +19,11 @@ impl Naming {
         number: u64,
         clauses: C,
         cubes: D,
-    ) -> Result<(Session<C, D>, Naming), (C, D)>
-        ensures { MatchResult result (λ p. (state_of C.Database.meaning D.Database.meaning p.0 ≡ opening (C.Database.meaning clauses) (D.Database.meaning cubes)) × (p.1.0 ≡ number)) (λ e. (e.0 ≡ clauses) × (e.1 ≡ cubes)) }
+    ) -> Result<(Session<C, D>, Naming), AllocFailed<(C, D)>>
+        ensures { MatchResult result (λ p. (state_of p.0 ≡ opening (C.Database.meaning clauses) (D.Database.meaning cubes)) × (p.1.number ≡ number)) (λ e. e.value ≡ (clauses, cubes)) }
     {
-        match Session::open(heap, clauses, cubes) {
-            Ok(session) => Ok((session, Naming(number))),
-            Err(back) => Err(back),
-        }
+        let session = Session::open(heap, clauses, cubes)?;
+        Ok((session, Stage::numbered(number)))
     }
 
     /// Names the next variable.
@@ -34,14 +32,10 @@ impl Naming {
         session: &mut Session<C, D>,
         quantifier: Quantifier,
     ) -> Result<Naming, (Naming, Refusal)>
-        ensures numbered { elim result [ Ok t ↦ t.0 ≡ self.0 | Err e ↦ e.0.0 ≡ self.0 ] }
-        ensures does { Does C.Database.meaning D.Database.meaning (Name quantifier) session.old (told result) session.new }
+        ensures numbered { Numbers self.number result }
+        ensures does { Does (Name quantifier) session.old (told result) session.new }
     {
-        let Naming(number) = self;
-        match session.name(quantifier) {
-            Ok(()) => Ok(Naming(number)),
-            Err(refusal) => Err((Naming(number), refusal)),
-        }
+        self.hand_on(session.name(quantifier))
     }
 
     /// Ends naming; loading begins.
@@ -49,13 +43,9 @@ impl Naming {
         self,
         session: &mut Session<C, D>,
     ) -> Result<Loading, (Naming, Refusal)>
-        ensures numbered { elim result [ Ok t ↦ t.0 ≡ self.0 | Err e ↦ e.0.0 ≡ self.0 ] }
-        ensures does { Does C.Database.meaning D.Database.meaning EndNaming session.old (told result) session.new }
+        ensures numbered { Numbers self.number result }
+        ensures does { Does EndNaming session.old (told result) session.new }
     {
-        let Naming(number) = self;
-        match session.end_naming() {
-            Ok(()) => Ok(Loading(number)),
-            Err(refusal) => Err((Naming(number), refusal)),
-        }
+        self.hand_on(session.end_naming())
     }
 }

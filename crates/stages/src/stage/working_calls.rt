@@ -1,8 +1,7 @@
 //! The calls of Working.
 ghost use Rattle.calculus.specs.declared.call.Call.TheVariants.{Begin, Close, Decide, Imply, Undo};
 ghost use Rattle.session.specs.States.{Does};
-ghost use Rattle.stages.specs.Answers.{told};
-ghost use Rattle.std.specs.Prelude.{◌≡◌, Ok, Err};
+ghost use Rattle.stages.specs.Answers.{Numbers, told};
 
 use super::{Closed, Deriving, Working};
 use calculus::verdict::Verdict;
@@ -19,14 +18,10 @@ impl Working {
         side: Side,
         constraint: u64,
     ) -> Result<Working, (Working, Refusal)>
-        ensures numbered { elim result [ Ok t ↦ t.0 ≡ self.0 | Err e ↦ e.0.0 ≡ self.0 ] }
-        ensures does { Does C.Database.meaning D.Database.meaning (Imply side constraint) session.old (told result) session.new }
+        ensures numbered { Numbers self.number result }
+        ensures does { Does (Imply side constraint) session.old (told result) session.new }
     {
-        let Working(number) = self;
-        match session.imply(side, constraint) {
-            Ok(()) => Ok(Working(number)),
-            Err(refusal) => Err((Working(number), refusal)),
-        }
+        self.hand_on(session.imply(side, constraint))
     }
 
     /// Appends a literal of an unset variable to the trail, when all variables of earlier blocks are set.
@@ -35,14 +30,10 @@ impl Working {
         session: &mut Session<C, D>,
         code: u16,
     ) -> Result<Working, (Working, Refusal)>
-        ensures numbered { elim result [ Ok t ↦ t.0 ≡ self.0 | Err e ↦ e.0.0 ≡ self.0 ] }
-        ensures does { Does C.Database.meaning D.Database.meaning (Decide code) session.old (told result) session.new }
+        ensures numbered { Numbers self.number result }
+        ensures does { Does (Decide code) session.old (told result) session.new }
     {
-        let Working(number) = self;
-        match session.decide(code) {
-            Ok(()) => Ok(Working(number)),
-            Err(refusal) => Err((Working(number), refusal)),
-        }
+        self.hand_on(session.decide(code))
     }
 
     /// Keeps so many decisions, and cuts the trail just before the next one.
@@ -51,14 +42,10 @@ impl Working {
         session: &mut Session<C, D>,
         decisions: u16,
     ) -> Result<Working, (Working, Refusal)>
-        ensures numbered { elim result [ Ok t ↦ t.0 ≡ self.0 | Err e ↦ e.0.0 ≡ self.0 ] }
-        ensures does { Does C.Database.meaning D.Database.meaning (Undo decisions) session.old (told result) session.new }
+        ensures numbered { Numbers self.number result }
+        ensures does { Does (Undo decisions) session.old (told result) session.new }
     {
-        let Working(number) = self;
-        match session.undo(decisions) {
-            Ok(()) => Ok(Working(number)),
-            Err(refusal) => Err((Working(number), refusal)),
-        }
+        self.hand_on(session.undo(decisions))
     }
 
     /// Copies a constraint into the working constraint, to derive from it.
@@ -68,14 +55,10 @@ impl Working {
         side: Side,
         constraint: u64,
     ) -> Result<Deriving, (Working, Refusal)>
-        ensures numbered { elim result [ Ok t ↦ t.0 ≡ self.0 | Err e ↦ e.0.0 ≡ self.0 ] }
-        ensures does { Does C.Database.meaning D.Database.meaning (Begin side constraint) session.old (told result) session.new }
+        ensures numbered { Numbers self.number result }
+        ensures does { Does (Begin side constraint) session.old (told result) session.new }
     {
-        let Working(number) = self;
-        match session.begin(side, constraint) {
-            Ok(()) => Ok(Deriving(number)),
-            Err(refusal) => Err((Working(number), refusal)),
-        }
+        self.hand_on(session.begin(side, constraint))
     }
 
     /// Closes the session with a verdict.
@@ -84,13 +67,9 @@ impl Working {
         session: &mut Session<C, D>,
         verdict: Verdict,
     ) -> Result<Closed, (Working, Refusal)>
-        ensures numbered { elim result [ Ok t ↦ t.0 ≡ self.0 | Err e ↦ e.0.0 ≡ self.0 ] }
-        ensures does { Does C.Database.meaning D.Database.meaning (Close verdict) session.old (told result) session.new }
+        ensures numbered { Numbers self.number result }
+        ensures does { Does (Close verdict) session.old (told result) session.new }
     {
-        let Working(number) = self;
-        match session.close(verdict) {
-            Ok(()) => Ok(Closed(number)),
-            Err(refusal) => Err((Working(number), refusal)),
-        }
+        self.hand_on(session.close(verdict))
     }
 }

@@ -6,6 +6,3 @@ use Rattle.operations.proofs.blocks.earlier_unset.Given as goal
 
 abbrev pub invariant-variables : goal.invariant-variables
 invariant-variables l = Walk l.prefix (literals (trail_of l.trail)) l.variable l.next l.earlier
-
-abbrev pub decreases-variables : goal.decreases-variables
-decreases-variables l = l.next

@@ -1,12 +1,11 @@
--- What the rest of the pass gives, and how much is left of the two constraints.
-use Rattle.std.proofs.Common.{◌+◌, ◌-◌, length}
+-- What the rest of the pass gives.
 use Rattle.qbf.specs.Constraints.{codes_of}
+use Rattle.database.specs.Codes.{codes_left}
 use Rattle.calculus.specs.State.{constraint}
-use Rattle.operations.proofs.Passes.{Going}
+use Rattle.operations.proofs.Passes.{Passing}
 use Rattle.operations.proofs.resolve.resolve_into.Given as goal
 
-abbrev pub invariant-codes : goal.invariant-codes
-invariant-codes g l = Going l.variable (codes_of l.into) (codes_of l.working) (constraint (g.D.Database.meaning l.database).list l.number) l.left l.right
-
-abbrev pub decreases-codes : goal.decreases-codes
-decreases-codes g l = (length (codes_of l.working) - l.left) + (length (constraint (g.D.Database.meaning l.database).list l.number) - l.right)
+abbrev pub invariant-loop-front : goal.invariant-loop-front
+invariant-loop-front g l =
+    Passing l.variable (codes_of l.into) l.front-iterator.left.now (codes_left l.front-iterator.right)
+    (codes_of l.working) (constraint (g.D.Database.meaning l.database).list l.number)

@@ -4,10 +4,10 @@ use Rattle.session.specs.States.{state_of}
 use Rattle.trace_run.proofs.Checking.{checked}
 use Rattle.trace_run.proofs.check.check.Goals as goal
 
-pub returns-in-Ok : goal.returns-in-Ok
-returns-in-Ok g c =
+pub returns : goal.returns
+returns g c =
     let m = g.C.Database.meaning in
     let n = g.D.Database.meaning in
     let run = c.run-answer.ensures in
     let back = c.into_databases-clauses in
-    checked (m c.args.clauses) (n c.args.cubes) c.args.trace.now c.run-answer.result (state_of m n c.in-Ok.session) (state_of m n c.run-answer.new.session) (m back.result.0) (n back.result.1) c.in-Ok.ensures run.answer run.state (ap m back.ensures.clauses) (ap n back.ensures.cubes)
+    checked (m c.args.clauses) (n c.args.cubes) c.args.trace.now c.run-answer.result (state_of c.in_ok-session.session) (state_of c.run-answer.new.session) (m back.result.0) (n back.result.1) c.in_ok-session.ensures run.answer run.state (ap m back.ensures.clauses) (ap n back.ensures.cubes)

@@ -26,32 +26,28 @@ stopped σ₀ bs a b σ τ h q l e =
 
 pub returns-in_default : goal.returns-in_default
 returns-in_default g c =
-    let m = g.C.Database.meaning in
-    let n = g.D.Database.meaning in
-    let σ₀ = state_of m n c.args.session.now in
+    let σ₀ = state_of c.args.session.now in
     let bs = c.args.trace.now in
-    let σ = state_of m n c.records.session in
+    let σ = state_of c.records.session in
     let h = c.records.invariant.0 in
     let r = c.next.new.self in
     let e = ends σ h c.records.reader r c.in_default.ensures.steps ∙ c.records.invariant.1 in
-    let τ = state_of m n c.leave.new.session in
+    let τ = state_of c.leave.new.session in
     let w = stopped σ₀ bs (ended r.fault σ.stage r.records r.place) c.ending-answer.result σ τ h c.ending-answer.ensures c.leave.ensures e in
     record { answer = w.answer; state = w.state; says = says σ₀ bs c.ending-answer.result w.answer; only = only_those; extends = extends σ₀ τ bs w.state }
 
 pub returns-in-Refused : goal.returns-in-Refused
 returns-in-Refused g c =
-    let m = g.C.Database.meaning in
-    let n = g.D.Database.meaning in
-    let σ₀ = state_of m n c.args.session.now in
+    let σ₀ = state_of c.args.session.now in
     let bs = c.args.trace.now in
     let h = c.records.invariant.0 in
     let r = c.records.reader in
     let f = c.in-Refused.refusal in
     let call = c.call_of.result in
     let steps = c.in-Some.ensures.steps in
-    let σ = state_of m n c.records.session in
-    let mid = state_of m n c.apply.new.self in
-    let τ = state_of m n c.leave-in-Refused.new.session in
+    let σ = state_of c.records.session in
+    let mid = state_of c.apply.new.self in
+    let τ = state_of c.leave-in-Refused.new.session in
     let e = gives_up σ mid h r c.next.new.self c.in-Some.record call f steps c.call_of.ensures.value c.apply.ensures.does.state (sym c.in-Refused.is ∙ c.apply.ensures.does.answers) ∙ c.records.invariant.1 in
     let number : c.records-in-Refused.result ≡ r.records + 1 = c.records-in-Refused.ensures ∙ one_more r c.next.new.self c.in-Some.record steps in
     let place : c.place-byte.result ≡ r.place = c.place-byte.ensures in
@@ -61,13 +57,11 @@ returns-in-Refused g c =
 
 pub records-preserved : goal.records-preserved
 records-preserved g c =
-    let m = g.C.Database.meaning in
-    let n = g.D.Database.meaning in
     let h = c.records.invariant.0 in
     let a = c.apply.result in
     let call = c.call_of.result in
     let steps = c.in-Some.ensures.steps in
-    let σ = state_of m n c.records.session in
-    let τ = state_of m n c.apply.new.self in
+    let σ = state_of c.records.session in
+    let τ = state_of c.apply.new.self in
     let e = goes_on_lem σ τ h c.records.reader c.next.new.self c.in-Some.record call a steps c.call_of.ensures.value c.apply.ensures.does.state c.apply.ensures.does.answers c.in_default-apply.not-Refused in
     ((call, a) ∷ h, e ∙ c.records.invariant.1, steps.same ∙ c.records.invariant.2)

@@ -10,7 +10,7 @@ use Rattle.trace_run.proofs.run.run.Given as goal
 abbrev pub invariant-records : goal.invariant-records
 invariant-records g l =
     (h : List Event)
-    × (comes (state_of g.C.Database.meaning g.D.Database.meaning l.session) h l.reader ≡ ran (state_of g.C.Database.meaning g.D.Database.meaning l.initial.session) l.trace)
+    × (comes (state_of l.session) h l.reader ≡ ran (state_of l.initial.session) l.trace)
     × (l.reader.trace.now ≡ l.trace)
 
 abbrev pub decreases-records : goal.decreases-records

@@ -1,27 +1,19 @@
--- Each turn passes one entry.
-use Rattle.std.proofs.Common.{◌<◌, ◌≤◌, length, vec_items, sym, arith}
-use Rattle.operations.proofs.Undos.{passed, counted, found, none}
+-- The chain yields the places of the decisions.
+use Rattle.std.proofs.Common.{map, rules, tests, sym, ap, ◌∙◌}
+use Rattle.std.proofs.lemmas.Iterator.{YieldsList-from_slice, YieldsList-from_map}
+use Rattle.std.proofs.lemmas.Iterator.Consumers.{YieldsList-at, YieldsList-from_enumerate, YieldsList-from_filter, nth_from_yields_List}
+use Rattle.std.proofs.lemmas.Iterator.Adapters.{option_map_id}
+use Rattle.std.specs.List.{slice_get}
+use Rattle.operations.specs.Entries.{decides}
+use Rattle.operations.proofs.Undos.{boundary, decided_from}
 use Rattle.operations.proofs.trail.Trail.boundary.Goals as goal
-use Rattle.operations.proofs.trail.Trail.boundary.Goals.{then-is_decision+else-more-eq0, else-is_decision}
-
-pub returns-then-more-eq0 : goal.returns-then-more-eq0
-returns-then-more-eq0 c =
-    let es = vec_items c.args.self.now.entries in
-    let h : c.entries.place < length es = omega arith in
-    found c.args.decisions es c.entries.more c.entries.place c.index-item.result.now h c.index-item.ensures (sym c.if-is_decision.ensures) c.if-more-eq0.true c.entries.invariant
-
-pub entries-preserved : goal.entries-preserved
-entries-preserved c =
-    let es = vec_items c.args.self.now.entries in
-    let h : c.entries.place < length es = omega arith in
-    elim c.if-is_decision.branch [
-      | then-is_decision+else-more-eq0 w ↦ counted c.args.decisions es c.entries.more c.if-is_decision.more c.entries.place c.index-item.result.now h c.index-item.ensures
-          (sym w.if-is_decision.ensures) w.if-more-eq0.false w.more-is c.entries.invariant
-      | else-is_decision w ↦ simp w.more-is (passed c.args.decisions es c.entries.more c.entries.place c.index-item.result.now h c.index-item.ensures (sym w.if-is_decision.ensures) c.entries.invariant)
-    ]
 
 pub returns : goal.returns
 returns c =
-    let es = vec_items c.args.self.now.entries in
-    let h : length es ≤ c.entries.place = omega arith in
-    none c.args.decisions es c.entries.more c.entries.place h c.entries.invariant
+    let es = c.args.self.now.entries.items in
+    let f = nth_from_yields_List c.nth.result c.nth.new.self _ c.nth.ensures.ran
+    (YieldsList-from_map _ (λ q. q.0)
+    (YieldsList-at c.map.ensures.source
+    (YieldsList-from_filter _ (λ q. decides q.1.cause) (YieldsList-from_enumerate (YieldsList-from_slice es cc) cc) c.filter.ensures.closure (λ x r q k. search (rules, tests))))
+    c.map.ensures.closure (λ x r q k. search rules)) in
+    boundary c.args.decisions es c.nth.result (sym (option_map_id c.nth.result) ∙ f ∙ ap (slice_get (map (λ q. q.0) (decided_from 0 es))) c.from.ensures)

@@ -6,5 +6,5 @@ pub returns : goal.returns
 returns g c =
     record {
       does = c.dispatch.ensures;
-      continues = continues g.C.Database.meaning g.D.Database.meaning c.args.call c.args.self.now _ c.dispatch.result c.dispatch.ensures;
+      continues = continues c.args.call c.args.self.now _ c.dispatch.result c.dispatch.ensures;
     }

@@ -19,6 +19,6 @@ pub returns : goal.returns
 returns g c =
     let M = g.C.Database.meaning c.args.clauses in
     let N = g.D.Database.meaning c.args.cubes in
-    let σ = state_of g.C.Database.meaning g.D.Database.meaning c.calls.session in
+    let σ = state_of c.calls.session in
     let all : take c.calls.call-index c.args.calls.now ≡ c.args.calls.now = take_all c.calls.call-index c.args.calls.now c.calls-test.false in
-    replayed M N c.args.calls.now σ (subst (λ (l : List Call). Sofar M N l σ) all (c.calls.invariant M N (sym c.in-Ok.ensures)))
+    replayed M N c.args.calls.now σ (subst (λ (l : List Call). Sofar M N l σ) all (c.calls.invariant M N (sym c.in_ok-session.ensures)))

@@ -8,5 +8,5 @@ use Rattle.session.proofs.session.replay.replay.Given as goal
 
 abbrev pub invariant-calls : goal.invariant-calls
 invariant-calls g l =
-    (M N : Meaning) → opening M N ≡ state_of g.C.Database.meaning g.D.Database.meaning l.initial.session
-    → Sofar M N (take l.call-index l.calls) (state_of g.C.Database.meaning g.D.Database.meaning l.session)
+    (M N : Meaning) → opening M N ≡ state_of l.initial.session
+    → Sofar M N (take l.call-index l.calls) (state_of l.session)

@@ -5,12 +5,12 @@ use Rattle.trace.proofs.Turns.{went, stops}
 use Rattle.trace.proofs.Tellings.{tells}
 use Rattle.trace.proofs.reader.methods.count_records.Goals as goal
 
-pub records-preserved : goal.records-preserved
-records-preserved c =
+pub loop-preserved : goal.loop-preserved
+loop-preserved c =
     let h = c.in-Some.ensures.steps in
-    (went _ _ _ h ∙ c.records.invariant.0, h.same ∙ c.records.invariant.1)
+    (went _ _ _ h ∙ c.loop.invariant.0, h.same ∙ c.loop.invariant.1)
 
-pub returns-in_default : goal.returns-in_default
-returns-in_default c =
-    let v = c.outcome.ensures ∙ stops _ _ c.in_default.ensures.steps ∙ c.records.invariant.0 in
+pub returns : goal.returns
+returns c =
+    let v = c.outcome.ensures ∙ stops _ _ c.in_default.ensures.steps ∙ c.loop.invariant.0 in
     record { value = v; tells = subst (Tells c.args.trace.now) (sym v) (tells c.args.trace.now) }

@@ -1,33 +1,32 @@
-use Rattle.std.proofs.Common.{◌≡◌, ℕ, ◌+◌, ◌-◌, List, sym, ap, ◌∙◌, arith, rules}
-use Rattle.std.proofs.lemmas.Bool.{le-leb}
+use Rattle.std.proofs.Common.{leb, sym, refl, ◌-◌, arith}
+use Rattle.std.proofs.lemmas.Bool.{cond-true, le-leb}
 use Rattle.qbf.specs.Views.{viewed}
 use Rattle.qbf.proofs.Views.{formed_shown}
-use Rattle.bitset_rows.specs.Rows.{row}
-use Rattle.bitset_database.specs.Table.{table_meaning}
-use Rattle.bitset_database.proofs.Tables.{formed_new, meaning_added}
+use Rattle.bitset_database.proofs.Tables.{stored_part, formed_new, meaning_added}
 use Rattle.bitset_database.proofs.bitset.methods.BitsetDatabaseDatabase.add.Goals as goal
 
 pub invariant_of-self : goal.invariant_of-self
 invariant_of-self c =
-    let w = c.write.new.self in
-    let C : List ℕ = viewed c.args.constraint in
-    let f = formed_shown c.args.constraint.complemented c.args.constraint.codes.now c.args.constraint.formed in
-    let e : row w.words.now w.count ≡ C = ap (row w.words.now) c.write.ensures.count ∙ c.write.ensures.stored.codes in
-    record { whole = w.whole; within = omega arith; formed = formed_new w.words.now w.count C w.formed e f }
-
-pub returns : goal.returns
-returns c =
     let v = c.args.self.now in
-    let w = c.write.new.self in
-    let C : List ℕ = viewed c.args.constraint in
-    let m = meaning_added v.words.now w.words.now v.total v.count C c.write.ensures.stored in
-    let et : w.total ≡ v.total = c.write.ensures.total in
-    let en : w.count ≡ v.count = c.write.ensures.count in
-    let q : table_meaning w.words.now w.total (w.count + 1) ≡ table_meaning w.words.now v.total (v.count + 1) = rw (et, en) in
+    let a = c.args.constraint in
+    let n = c.copy_from_slice.ensures in
+    let s = stored_part v.words.now _ _ v.count (viewed a) (omega arith) n.len n.after c.row_of.ensures in
     record {
-      adds = record { answers = sym (le-leb 1 (v.total - v.count) (omega arith)); after = q ∙ m };
-      refused = search rules;
-      stored = λ _. c.write.ensures.stored;
-      unchanged = search rules;
-      lent = search rules;
+      whole = omega (arith, s.beside.long);
+      within = omega arith;
+      formed = formed_new v.words.now _ v.count (viewed a) s v.formed (formed_shown a.complemented a.codes.now a.formed);
+    }
+
+pub returns-clause-stored : goal.returns-clause-stored
+returns-clause-stored c =
+    let v = c.args.self.now in
+    let n = c.copy_from_slice.ensures in
+    λ _. stored_part v.words.now _ _ v.count _ (omega arith) n.len n.after c.row_of.ensures
+
+pub returns-clause-adds : goal.returns-clause-adds
+returns-clause-adds c =
+    let v = c.args.self.now in
+    record {
+      answers = sym (cond-true (leb 1 (v.total - v.count)) _ _ (le-leb 1 (v.total - v.count) (omega arith)));
+      after = meaning_added v.words.now _ v.count (viewed c.args.constraint) (returns-clause-stored c refl) v.total;
     }

@@ -1,0 +1,11 @@
+-- What the rest of the pass gives.
+use Rattle.qbf.specs.Constraints.{codes_of}
+use Rattle.database.specs.Codes.{codes_left}
+use Rattle.calculus.specs.State.{constraint}
+use Rattle.operations.proofs.Looks.{Looking}
+use Rattle.operations.proofs.resolve.check_resolvable.Given as goal
+
+abbrev pub invariant-loop-front : goal.invariant-loop-front
+invariant-loop-front g l =
+    Looking l.variable l.pivot l.second l.front-iterator.left.now (codes_left l.front-iterator.right)
+    (codes_of l.working) (constraint (g.D.Database.meaning l.database).list l.number)
