@@ -21,17 +21,17 @@ use Rattle.database.specs.Meaning.{added}
 use Rattle.database.proofs.Counted.{counted_same}
 use Rattle.bitset_database.specs.Table.{WellFormed, Stored, table_meaning}
 
--- a row by its own 16 words, the first of the words from it on
-pub first_row : (o : Option (Bor (List ℕ))) (ws : List ℕ) (k : ℕ) → 16 * k + 16 ≤ length ws
-    → MatchOption o (length (take (length ws - 16 * k) (drop (16 * k) ws)) < 16) (λ y. IsFirstChunk (take (length ws - 16 * k) (drop (16 * k) ws)) y.now 16)
+-- a row by its own 16 words, the first of the words from it on, up to place n
+pub first_row : (o : Option (Bor (List ℕ))) (ws : List ℕ) (k n : ℕ) → 16 * k + 16 ≤ n → n ≤ length ws
+    → MatchOption o (length (take (n - 16 * k) (drop (16 * k) ws)) < 16) (λ y. IsFirstChunk (take (n - 16 * k) (drop (16 * k) ws)) y.now 16)
     → option_map (λ words. row words.now 0) o ≡ Some (row ws k)
-first_row None ws k l h = absurd (omega (arith, length-take {A = ℕ}, length-drop {A = ℕ}))
-first_row (Some y) ws k l h =
+first_row None ws k n l w h = absurd (omega (arith, length-take {A = ℕ}, length-drop {A = ℕ}))
+first_row (Some y) ws k n l w h =
     ap Some
     (row_moved ws y.now k 0
     (λ i q. let z : 16 * 0 + i ≡ i = omega arith in
     let e = h.same in
-    let m : i < length ws - 16 * k = omega arith in
+    let m : i < n - 16 * k = omega arith in
     ap (λ (j : ℕ). get_or y.now j 0) z ∙ simp (e, get_or-take, get_or-drop)))
 
 -- the row holds the codes before c: no bit from that of c on is set

@@ -24,3 +24,8 @@ Steps X Y (Some (Left l)) M N = (X ≡ l ∷ M) × (Y ≡ N) × Before l (slice_
 Steps X Y (Some (Right l)) M N = (X ≡ M) × (Y ≡ l ∷ N) × Before l (slice_get M 0)
 Steps X Y (Some (Both l)) M N = (X ≡ l ∷ M) × (Y ≡ l ∷ N)
 Steps X Y (Some (Opposite l)) M N = (X ≡ l ∷ M) × (Y ≡ complement l ∷ N)
+
+-- A constraint of which the first code was read ahead, if it has one, and the codes behind it.
+abbrev pub with_first : Option ℕ → List ℕ → List ℕ
+with_first None N = []
+with_first (Some c) N = c ∷ N

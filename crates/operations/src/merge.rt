@@ -1,6 +1,6 @@
 //! Two constraints, gone over together by what comes first in them.
 ghost use Rattle.database.specs.Codes.{codes_at, codes_left};
-ghost use Rattle.operations.specs.Fronts.{Fronts, Steps};
+ghost use Rattle.operations.specs.Fronts.{Fronts, Steps, with_first};
 ghost use Rattle.qbf.specs.Constraints.{codes_of};
 ghost use Rattle.std.specs.Iterator.{at_most};
 ghost use Rattle.std.specs.Prelude.{◌≡◌, ◌+◌, length};
@@ -42,21 +42,26 @@ fn foremost(left: Option<u16>, right: Option<u16>) -> Option<Front>
 }
 
 /// What is left of two constraints. A turn takes what comes first in them.
+/// The right one's first code is read once, and kept until a turn takes it; the codes behind it are read later.
 #[derive(Drop)]
 pub(crate) struct Merge<'a, D: Database> {
     left: &'a [u16],
-    right: Codes<'a, D>,
+    right_first: Option<u16>,
+    right_behind: Codes<'a, D>,
 }
 
 impl<'a, D: Database> Merge<'a, D> {
     /// The working constraint and that of a number.
     pub(crate) fn of(working: &'a Constraint, database: &'a D, number: u64) -> Merge<'a, D>
         ensures left { result.left.now ≡ codes_of working.now }
-        ensures right { codes_left result.right ≡ codes_at (D.Database.meaning database.now).list number }
+        ensures right { with_first result.right_first (codes_left result.right_behind) ≡ codes_at (D.Database.meaning database.now).list number }
     {
+        let mut right = Codes::of(database, number);
+        let first = right.next();
         Merge {
             left: working.as_slice(),
-            right: Codes::of(database, number),
+            right_first: first,
+            right_behind: right,
         }
     }
 }
@@ -64,17 +69,17 @@ impl<'a, D: Database> Merge<'a, D> {
 impl<'a, D: Database> Iterator for Merge<'a, D> {
     type Item = Front;
 
-    ghost next_gives = { λ s r t. Steps s.left.now (codes_left s.right) r t.left.now (codes_left t.right) };
+    ghost next_gives = { λ s r t. Steps s.left.now (with_first s.right_first (codes_left s.right_behind)) r t.left.now (with_first t.right_first (codes_left t.right_behind)) };
 
-    ghost remaining = { λ s. at_most (length s.left.now + length (codes_left s.right)) };
+    ghost remaining = { λ s. at_most (length s.left.now + length (with_first s.right_first (codes_left s.right_behind))) };
 
     fn next(&mut self) -> Option<Front> {
-        let front = foremost(self.left.first().copied(), self.right.peek())?;
+        let front = foremost(self.left.first().copied(), self.right_first)?;
         if !matches!(front, Front::Right(_)) {
             self.left = &self.left[1..];
         }
         if !matches!(front, Front::Left(_)) {
-            self.right.next();
+            self.right_first = self.right_behind.next();
         }
         Some(front)
     }

@@ -17,8 +17,9 @@ pub fn fetch<D: Database>(database: &D, number: u64, into: &mut Constraint) -> R
     ensures refused { is_ok result ≡ false → into.new ≡ into.old }
 {
     database.length(number).ok_or(Refusal::NoSuchConstraint)?;
+    let codes = Codes::of(database, number);
     into.clear();
-    for code in Codes::of(database, number) {
+    for code in codes {
         let Ok(()) = into.push(code) else {
             unreachable()
         };
@@ -30,5 +31,5 @@ pub fn fetch<D: Database>(database: &D, number: u64, into: &mut Constraint) -> R
 pub fn has_empty<D: Database>(database: &D) -> bool
     ensures { result ≡ some is_empty (D.Database.meaning database.now).list }
 {
-    (1..=database.count()).any(|number| database.length(number) == Some(0))
+    (0..database.count()).any(|before| database.length(before.wrapping_add(1)) == Some(0))
 }

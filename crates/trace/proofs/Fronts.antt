@@ -1,5 +1,5 @@
 -- What stands at the front of some bytes, and what that says of the bytes. Assumes nothing.
-use Rattle.std.proofs.Common.{◌≡◌, ℕ, zero, suc, ◌+◌, ◌-◌, ◌<◌, ◌≤◌, List, [], ◌∷◌, length, take, drop, Some, None, Option, sym, refl, ap, ◌∙◌, subst, ⊎_elim, arith, length-drop, length-take-le}
+use Rattle.std.proofs.Common.{◌≡◌, ℕ, zero, suc, ◌+◌, ◌-◌, ◌<◌, ◌≤◌, List, [], ◌∷◌, length, get_or, take, drop, Some, None, Option, sym, refl, ap, ◌∙◌, subst, ⊎_elim, arith, length-drop, length-take-le, drop-cons}
 use Rattle.std.proofs.lemmas.Slice.{between_to_end}
 use Rattle.std.proofs.lemmas.Bool.{cases_lt}
 use Rattle.trace.specs.Format.{Front, end, whole, unknown_kind, cut_body, body_length, longer, take_body, after_kind, decode}
@@ -33,6 +33,16 @@ seen_after k (Some n) bs e =
 pub seen : (xs : List ℕ) → Seen xs (decode xs)
 seen [] = none
 seen (k ∷ bs) = seen_after k (body_length k) bs refl
+
+-- n bytes of a list from place i on, one by one
+abbrev pub bytes_at : ℕ → ℕ → List ℕ → List ℕ
+bytes_at zero i xs = []
+bytes_at (suc n) i xs = get_or xs i 0 ∷ bytes_at n (suc i) xs
+
+bytes_at_lem : (n i : ℕ) (xs : List ℕ) → i + n ≤ length xs → bytes_at n i xs ≡ take n (drop i xs)
+bytes_at_lem zero i xs h = refl
+bytes_at_lem (suc n) i xs h =
+    ap (λ l. get_or xs i 0 ∷ l) (bytes_at_lem n (suc i) xs (omega arith)) ∙ ap (take (suc n)) (sym (drop-cons xs i 0 (omega arith)))
 
 -- how long the parts of a front are
 abbrev Spans : List ℕ → Front → Type 0

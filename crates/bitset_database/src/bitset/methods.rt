@@ -54,7 +54,7 @@ impl<'a> BitsetDatabase<'a> {
         ensures { option_map (λ words. row words.now 0) result ≡ numbered (meaning_of self.now).list number }
     {
         let start = 16 * index(number, self.count)?;
-        self.words[start..].first_chunk()
+        self.words[start..start + 16].first_chunk()
     }
 }
 
@@ -97,7 +97,10 @@ impl<'a> Database for BitsetDatabase<'a> {
 
     fn code(&self, number: u64, place: u32) -> Option<u16> {
         let words = self.row(number)?;
-        let mut left = place.checked_sub(1)?;
+        if place == 0 {
+            return None;
+        }
+        let mut left = place - 1;
         for (i, word) in words.iter().enumerate() {
             let ones = word.count_ones();
             if left < ones {

@@ -14,6 +14,7 @@ impl<'a, D: Database> Codes<'a, D> {
         Codes {
             database,
             number,
+            size: database.length(number).unwrap_or(0),
             place: 1,
         }
     }
@@ -22,6 +23,9 @@ impl<'a, D: Database> Codes<'a, D> {
     pub fn peek(&self) -> Option<u16>
         ensures { result ≡ slice_get (codes_left self.now) 0 }
     {
+        if self.place > self.size {
+            return None;
+        }
         self.database.code(self.number, self.place)
     }
 }

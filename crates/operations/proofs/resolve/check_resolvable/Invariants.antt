@@ -2,10 +2,11 @@
 use Rattle.qbf.specs.Constraints.{codes_of}
 use Rattle.database.specs.Codes.{codes_left}
 use Rattle.calculus.specs.State.{constraint}
+use Rattle.operations.specs.Fronts.{with_first}
 use Rattle.operations.proofs.Looks.{Looking}
 use Rattle.operations.proofs.resolve.check_resolvable.Given as goal
 
 abbrev pub invariant-loop-front : goal.invariant-loop-front
 invariant-loop-front g l =
-    Looking l.variable l.pivot l.second l.front-iterator.left.now (codes_left l.front-iterator.right)
+    Looking l.variable l.pivot l.second l.front-iterator.left.now (with_first l.front-iterator.right_first (codes_left l.front-iterator.right_behind))
     (codes_of l.working) (constraint (g.D.Database.meaning l.database).list l.number)

@@ -1,4 +1,4 @@
-use Rattle.std.proofs.Common.{option_map, sym, ap, ◌∙◌, arith}
+use Rattle.std.proofs.Common.{◌+◌, ◌*◌, option_map, sym, ap, ◌∙◌, arith}
 use Rattle.bitset_rows.specs.Rows.{row}
 use Rattle.database.proofs.Counted.{numbered_counted, numbered_not_counted}
 use Rattle.bitset_database.proofs.Tables.{first_row}
@@ -13,5 +13,5 @@ pub returns : goal.returns
 returns c =
     let v = c.args.self.now in
     let k = c.in_ok-start.field-0 in
-    first_row c.first_chunk.result v.words.now k (omega arith) c.first_chunk.ensures.cases
+    first_row c.first_chunk.result v.words.now k (16 * k + 16) (omega arith) (omega arith) c.first_chunk.ensures.cases
     ∙ sym (numbered_counted (row v.words.now) v.count c.args.number k (omega arith) (omega arith))
